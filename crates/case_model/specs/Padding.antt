@@ -1,0 +1,10 @@
+use Rattle.std.specs.Prelude.{◌≡◌, ℕ, ◌-◌, ◌≤◌, ◌++◌, List, length, drop, take, replicate}
+
+-- 32 bytes of which those from `len` on are 0
+pub record IsPadded (bytes : List ℕ) (len : ℕ) : Type 0 where
+  pub whole : length bytes ≡ 32
+  pub few : len ≤ 32
+  pub rest : drop len bytes ≡ replicate (32 - len) 0
+
+pub unpadded : (bytes : List ℕ) (len : ℕ) → IsPadded bytes len → ℕ
+unpadded bytes len h = 0

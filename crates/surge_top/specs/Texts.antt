@@ -1,0 +1,82 @@
+-- The texts that the program prints: lines of fields, one blank between them, a line end after each.
+use Rattle.std.specs.Prelude.{ℕ, ◌+◌, ◌-◌, ◌==◌, nat_lt, nat_le, ℤ, pos, if◌then◌else◌, List, [], ◌∷◌, ◌++◌, length, codes}
+use Rattle.std.specs.List.{flat_map, range_with_len, join_with_byte}
+use Rattle.fixed_num.specs.Written.{written}
+use Rattle.case_model.specs.declared.points.Point.{Point}
+use Rattle.case_model.specs.declared.points.Point.TheVariants.{Good, Bad}
+use Rattle.case_model.specs.declared.states.NodeState.{NodeState}
+use Rattle.case_model.specs.declared.states.NodeState.TheVariants.{Good as GoodState, Bad as BadState}
+use Rattle.case_model.specs.declared.cases.Case.{Case}
+use Rattle.case_model.specs.declared.meshes.Mesh.{Mesh}
+use Rattle.case_model.specs.declared.meshes.PipeMesh.{PipeMesh}
+use Rattle.case_model.specs.Mesh.{reaches}
+use Rattle.case_model.specs.Rows.{Row}
+use Rattle.surge_top.specs.Laws.{node_at, pipe_at}
+
+-- a line of fields
+abbrev pub line_of : List (List ℕ) → List ℕ
+line_of fields = join_with_byte 32 fields ++ 10 ∷ []
+
+-- a step, a place or a count; a head in 1e-6 m
+abbrev pub count_text : ℕ → List ℕ
+count_text n = written 0 (pos n)
+
+abbrev pub head_text : ℤ → List ℕ
+head_text h = written 6 h
+
+-- the line for words that aren't those of a command
+unfoldable pub usage_text : List ℕ
+usage_text = line_of (codes "usage:" ∷ codes "surge" ∷ codes "rounds" ∷ [])
+
+-- what a refusal's number stands for
+abbrev pub refusal_reason : ℕ → List ℕ
+refusal_reason number = if number == 1 then codes "first line" else if number == 7 then codes "name unknown" else codes "not read yet"
+
+unfoldable pub refusal_text : ℕ → ℕ → List ℕ
+refusal_text number line = line_of (codes "refused" ∷ count_text number ∷ codes "line" ∷ count_text line ∷ refusal_reason number ∷ [])
+
+-- how a place is named: a node by its name, a place of a pipe by the pipe's name and its number there
+abbrev pub node_label : Case → ℕ → List (List ℕ)
+node_label case k = (node_at case k).name ∷ []
+
+abbrev pub pipe_label : Case → ℕ → ℕ → List (List ℕ)
+pipe_label case p i = (pipe_at case p).name ∷ count_text i ∷ []
+
+-- the label of a place by its number among the places of these pipes, of which the first has the index `p`
+abbrev pub label_in : Case → ℕ → List PipeMesh → ℕ → List (List ℕ)
+label_in case p [] place = []
+label_in case p (mesh ∷ meshes) place =
+    if nat_le place mesh.reaches then pipe_label case p place else label_in case (p + 1) meshes (place - (mesh.reaches + 1))
+
+-- the label of a place by its number: all nodes in file order, then the places of each pipe
+abbrev pub label_of : Case → Mesh → ℕ → List (List ℕ)
+label_of case mesh place =
+    if nat_lt place (length case.nodes) then node_label case place else label_in case 0 mesh.pipes (place - length case.nodes)
+
+-- the line that names a place at a step whose numbers left their range
+unfoldable pub range_text : Case → Mesh → ℕ → ℕ → List ℕ
+range_text case mesh step place = line_of (codes "range" ∷ count_text step ∷ label_of case mesh place)
+
+abbrev pub head_of_state : NodeState → ℤ
+head_of_state (GoodState h v g) = h
+head_of_state BadState = pos 0
+
+abbrev pub head_of_point : Point → ℤ
+head_of_point (Good h qu qd v) = h
+head_of_point Bad = pos 0
+
+-- the line of a node's head, and of a place's head
+unfoldable pub node_line : Case → Row → ℕ → List ℕ
+node_line case row k = line_of (codes "last" ∷ (node_at case k).name ∷ head_text (head_of_state (row.state k)) ∷ [])
+
+unfoldable pub place_line : Case → Row → ℕ → ℕ → List ℕ
+place_line case row p i = line_of (codes "last" ∷ (pipe_at case p).name ∷ count_text i ∷ head_text (head_of_point (row.point p i)) ∷ [])
+
+-- the lines of a pipe, from its place 0 to its place N
+unfoldable pub pipe_lines : Case → Mesh → Row → ℕ → List ℕ
+pipe_lines case mesh row p = flat_map (place_line case row p) (range_with_len 0 (reaches mesh p + 1))
+
+-- the heads of a row: one line for each place in order of number
+unfoldable pub heads_text : Case → Mesh → Row → List ℕ
+heads_text case mesh row =
+    flat_map (node_line case row) (range_with_len 0 (length case.nodes)) ++ flat_map (pipe_lines case mesh row) (range_with_len 0 (length case.pipes))

@@ -1,0 +1,4 @@
+//! The top call of `surge`.
+#![tactic(auto)]
+
+mod entry;
