@@ -1,5 +1,4 @@
-use Rattle.std.specs.Prelude.{ℤ, pos, ◌≤ℤ◌, ◌≤◌, ◌&&◌, nat_le, if◌then◌else◌, unsigned_abs}
-use Rattle.std.specs.Int.{int_le}
+use Rattle.std.specs.Prelude.{ℤ, pos, ◌≤ℤ◌, ◌≤◌, ◌&&◌, nat_le, int_le, if◌then◌else◌, unsigned_abs}
 use Rattle.case_model.specs.declared.points.Point.{Point}
 use Rattle.case_model.specs.declared.points.Point.TheVariants.{Good, Bad}
 use Rattle.case_model.specs.declared.states.NodeState.{NodeState}

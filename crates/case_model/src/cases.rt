@@ -11,7 +11,7 @@ pub struct Case {
     pub vapour: i64,
     /// Weight psi of the new growth of a cavity, in tenths.
     pub weight: i64,
-    /// Greatest adjustment of a wave speed, in 1e-6 of it.
+    /// Greatest adjustment of a wave speed, in 1e-3 of it.
     pub tolerance: i64,
     /// Probes are sampled at the steps that are multiples of this.
     pub every: u64,

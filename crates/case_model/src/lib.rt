@@ -3,6 +3,7 @@
 #![tactic(auto)]
 
 mod cases;
+mod laws;
 mod lists;
 mod meshes;
 mod names;
@@ -11,6 +12,7 @@ mod ranges;
 mod states;
 
 pub use cases::{Case, Node, NodeKind, Pipe, Probe, ProbeAt, Table, TableKind, Value};
+pub use laws::Law;
 pub use lists::List;
 pub use meshes::{Arrival, CavityRule, End, Mesh, PipeMesh, Through};
 pub use names::Name;
