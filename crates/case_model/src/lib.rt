@@ -1,1 +1,21 @@
+//! The plain types of a case and of its mesh, the range rule of points, the
+//! hydraulic law as a trait, and the mesh row by row over any law.
 #![tactic(auto)]
+
+mod cases;
+mod laws;
+mod lists;
+mod meshes;
+mod names;
+mod points;
+mod ranges;
+mod states;
+
+pub use cases::{Case, Node, NodeKind, Pipe, Probe, ProbeAt, Table, TableKind, Value};
+pub use laws::Law;
+pub use lists::List;
+pub use meshes::{Arrival, CavityRule, End, Mesh, PipeMesh, Through};
+pub use names::Name;
+pub use points::Point;
+pub use ranges::{point_of, state_of};
+pub use states::NodeState;
