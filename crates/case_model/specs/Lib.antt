@@ -1,6 +1,7 @@
 pub mod FirstFault
 pub mod Meaning
 pub mod Mesh
+pub mod NameFields
 pub mod Padding
 pub mod Places
 pub mod Range

@@ -12,8 +12,9 @@ pub struct Name {
 }
 
 impl Model for Name {
-    ghost use Rattle.std.specs.Prelude.{◌-◌, ◌++◌, ℕ, List, take, replicate, length, refl};
-    ghost use Rattle.case_model.specs.Padding.{IsPadded, unpadded};
+    ghost use Rattle.std.specs.Prelude.{ℕ, List, take};
+    ghost use Rattle.case_model.specs.Padding.{IsPadded};
+    ghost use Rattle.case_model.specs.NameFields.{fields_of, fields_back};
 
     ghost Value = { List ℕ };
 
@@ -21,7 +22,26 @@ impl Model for Name {
 
     ghost invariant = { λ n. IsPadded n.bytes n.len };
 
-    ghost inverse = { λ xs. record { bytes = xs ++ replicate (32 - length xs) 0; len = length xs } };
+    ghost inverse = { fields_of };
 
-    ghost inverse_ok = { λ n h. unpadded n.bytes n.len h };
+    ghost inverse_ok = { fields_back };
+}
+
+impl Name {
+    /// The name of 1 to 32 bytes, each as it stands.
+    pub fn of(bytes: &[u8]) -> Name
+        requires { length bytes.now ≤ 32 }
+        ensures { result ≡ bytes.now }
+    {
+        let mut padded = [0; 32];
+        padded[..bytes.len()].copy_from_slice(bytes);
+        Name { bytes: padded, len: bytes.len() as u8 }
+    }
+
+    /// The bytes of the name.
+    pub fn as_bytes(&self) -> &[u8]
+        ensures { result.now ≡ self.now }
+    {
+        &self.bytes[..self.len as usize]
+    }
 }
