@@ -4,12 +4,16 @@
 //! and a stream tells nothing but its count of faults.
 #![tactic(auto)]
 
+mod memory;
 mod reading;
 mod sinks;
 mod sources;
+mod stream;
 mod writing;
 
+pub use memory::{MemorySink, MemorySource, SteadySource};
 pub use reading::{ReadFault, whole};
 pub use sinks::Sink;
 pub use sources::{Failed, Source};
+pub use stream::{StreamSink, StreamSource};
 pub use writing::put;
