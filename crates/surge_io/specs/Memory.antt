@@ -1,5 +1,5 @@
 -- What sources and sinks over memory show.
-use Rattle.std.specs.Prelude.{ℕ, ◌+◌, ◌-◌, ◌^◌, min, List}
+use Rattle.std.specs.Prelude.{ℕ, List}
 
 -- what a source over memory has left, the most that one read gives, the calls that fail, counted from 1, and its two counts
 pub record Feed : Type 0 where
@@ -16,7 +16,3 @@ pub record Store : Type 0 where
   pub failing : List ℕ
   pub calls : ℕ
   pub faults : ℕ
-
--- a count one higher, where its type has room for that
-abbrev pub raised : ℕ → ℕ
-raised count = min (count + 1) (2 ^ 64 - 1)

@@ -1,8 +1,8 @@
 //! Sources and a sink over memory, that fail where they are told to.
-ghost use Rattle.std.specs.Prelude.{◌≡◌, ◌↔◌, ℕ, ◌+◌, ◌-◌, ◌<◌, ◌≤◌, min, List, [], ◌++◌, Option, Some, length, take, drop, vec_len, vec_capacity, Contains, IsTrue, IsOk, IsErr, IfOk, IfSome, OnOk, OnErr, MatchResult};
+ghost use Rattle.std.specs.Prelude.{◌≡◌, ◌↔◌, ℕ, ◌+◌, ◌-◌, ◌<◌, ◌≤◌, min, List, [], ◌++◌, Option, Some, length, take, drop, vec_len, vec_capacity, Contains, IsTrue, IsOk, IsErr, IfOk, IfSome, OnOk, OnErr};
 ghost use Rattle.surge_io.specs.Bytes.{Appends, Takes};
-ghost use Rattle.surge_io.specs.Faults.{Rose};
-ghost use Rattle.surge_io.specs.Memory.{Feed, Store, raised};
+ghost use Rattle.surge_io.specs.Faults.{Rose, raised, faults_after_read, faults_after_write};
+ghost use Rattle.surge_io.specs.Memory.{Feed, Store};
 
 use super::sinks::Sink;
 use super::sources::{Failed, Source};
@@ -61,7 +61,7 @@ impl Source for MemorySource {
         ensures fails { IsErr result ↔ Contains self.old.failing (raised self.old.calls) }
         ensures given { IfOk result (λ n. n ≡ min self.old.piece (min (length into.old) (length self.old.left))) }
         ensures calls { self.new.calls ≡ raised self.old.calls }
-        ensures counted { MatchResult result (λ _. self.new.faults ≡ self.old.faults) (λ _. self.new.faults ≡ raised self.old.faults) }
+        ensures counted { self.new.faults ≡ faults_after_read result self.old.faults }
         ensures piece { self.new.piece ≡ self.old.piece }
         ensures failing { self.new.failing ≡ self.old.failing }
     {
@@ -180,6 +180,7 @@ impl Sink for MemorySink {
         ensures fails { IsErr result ↔ Contains self.old.failing (raised self.old.calls) }
         ensures taken { IfOk result (λ n. n ≡ min (length bytes.now) (self.old.room - length self.old.held)) }
         ensures calls { self.new.calls ≡ raised self.old.calls }
+        ensures counted { self.new.faults ≡ faults_after_write result bytes.now self.old.faults }
         ensures room { self.new.room ≡ self.old.room }
         ensures failing { self.new.failing ≡ self.old.failing }
     {
