@@ -2,6 +2,8 @@
 
 #![tactic(auto)]
 
+mod decimal;
 mod rounding;
 
+pub use decimal::{NumberFault, read_decimal};
 pub use rounding::rnd;
