@@ -4,6 +4,8 @@
 
 mod decimal;
 mod rounding;
+mod written;
 
 pub use decimal::{NumberFault, read_decimal};
 pub use rounding::rnd;
+pub use written::write_decimal;
