@@ -1,1 +1,11 @@
+//! Rounding of quotients, and numbers as decimal text in a fixed unit.
+
 #![tactic(auto)]
+
+mod decimal;
+mod rounding;
+mod written;
+
+pub use decimal::{NumberFault, read_decimal};
+pub use rounding::rnd;
+pub use written::write_decimal;

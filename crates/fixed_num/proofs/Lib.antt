@@ -1,0 +1,5 @@
+pub mod Nearest
+pub mod Digits
+pub mod Put
+pub mod Texts
+pub mod Back
