@@ -9,6 +9,7 @@ mod meshes;
 mod names;
 mod points;
 mod ranges;
+mod rows;
 mod states;
 
 pub use cases::{Case, Node, NodeKind, Pipe, Probe, ProbeAt, Table, TableKind, Value};
@@ -18,4 +19,5 @@ pub use meshes::{Arrival, CavityRule, End, Mesh, PipeMesh, Through};
 pub use names::Name;
 pub use points::Point;
 pub use ranges::{point_of, state_of};
+pub use rows::rows_follow_the_law;
 pub use states::NodeState;
