@@ -3,7 +3,7 @@ use Rattle.std.specs.Prelude.{ℕ, ◌==◌, ◌&&◌, Bool, Option, Some, None,
 use Rattle.std.specs.Str.{bytes_eq}
 use Rattle.case_model.specs.declared.cases.Case.{Case}
 use Rattle.case_model.specs.declared.meshes.Mesh.{Mesh}
-use Rattle.case_model.specs.Rows.{row}
+use Rattle.case_model.specs.Rows.{states, all_points}
 use Rattle.case_model.specs.FirstFault.{first_fault}
 use Rattle.surge_top.specs.Sets.{Refusal}
 use Rattle.surge_top.specs.ShortMesh.{verdict}
@@ -21,7 +21,7 @@ are_words words = (length words == 2) && bytes_eq (slice_index_or words 1 []) (c
 -- of an accepted case: the first fault up to the last step, or else the heads at that step
 abbrev pub computed : Case → Mesh → Option (ℕ × ℕ) → Answer
 computed case mesh (Some fault) = record { text = range_text case mesh fault.0 fault.1; status = 3 }
-computed case mesh None = record { text = heads_text case mesh (row (meaning_of case mesh) case.steps); status = 0 }
+computed case mesh None = record { text = heads_text case (states (meaning_of case mesh) case.steps) (all_points (meaning_of case mesh) case.steps); status = 0 }
 
 abbrev pub answer_to : Result (Case × Mesh) Refusal → Answer
 answer_to (Ok accepted) = computed accepted.0 accepted.1 (first_fault (meaning_of accepted.0 accepted.1) accepted.0.steps)

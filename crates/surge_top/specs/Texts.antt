@@ -1,5 +1,5 @@
 -- The texts that the program prints: lines of fields, one blank between them, a line end after each.
-use Rattle.std.specs.Prelude.{ℕ, ◌+◌, ◌-◌, ◌==◌, nat_lt, nat_le, ℤ, pos, if◌then◌else◌, List, [], ◌∷◌, ◌++◌, length, codes}
+use Rattle.std.specs.Prelude.{ℕ, ◌+◌, ◌-◌, ◌==◌, nat_lt, nat_le, ℤ, pos, if◌then◌else◌, List, [], ◌∷◌, ◌++◌, length, slice_index_or, codes}
 use Rattle.std.specs.List.{flat_map, range_with_len, join_with_byte}
 use Rattle.fixed_num.specs.Written.{written}
 use Rattle.case_model.specs.declared.points.Point.{Point}
@@ -9,8 +9,6 @@ use Rattle.case_model.specs.declared.states.NodeState.TheVariants.{Good as GoodS
 use Rattle.case_model.specs.declared.cases.Case.{Case}
 use Rattle.case_model.specs.declared.meshes.Mesh.{Mesh}
 use Rattle.case_model.specs.declared.meshes.PipeMesh.{PipeMesh}
-use Rattle.case_model.specs.Mesh.{reaches}
-use Rattle.case_model.specs.Rows.{Row}
 use Rattle.surge_top.specs.Laws.{node_at, pipe_at}
 
 -- a line of fields
@@ -66,17 +64,17 @@ head_of_point (Good h qu qd v) = h
 head_of_point Bad = pos 0
 
 -- the line of a node's head, and of a place's head
-unfoldable pub node_line : Case → Row → ℕ → List ℕ
-node_line case row k = line_of (codes "last" ∷ (node_at case k).name ∷ head_text (head_of_state (row.state k)) ∷ [])
+unfoldable pub node_line : Case → List NodeState → ℕ → List ℕ
+node_line case states k = line_of (codes "last" ∷ (node_at case k).name ∷ head_text (head_of_state (slice_index_or states k BadState)) ∷ [])
 
-unfoldable pub place_line : Case → Row → ℕ → ℕ → List ℕ
-place_line case row p i = line_of (codes "last" ∷ (pipe_at case p).name ∷ count_text i ∷ head_text (head_of_point (row.point p i)) ∷ [])
+unfoldable pub place_line : Case → ℕ → List Point → ℕ → List ℕ
+place_line case p points i = line_of (codes "last" ∷ (pipe_at case p).name ∷ count_text i ∷ head_text (head_of_point (slice_index_or points i Bad)) ∷ [])
 
 -- the lines of a pipe, from its place 0 to its place N
-unfoldable pub pipe_lines : Case → Mesh → Row → ℕ → List ℕ
-pipe_lines case mesh row p = flat_map (place_line case row p) (range_with_len 0 (reaches mesh p + 1))
+unfoldable pub pipe_lines : Case → List (List Point) → ℕ → List ℕ
+pipe_lines case points p = flat_map (place_line case p (slice_index_or points p [])) (range_with_len 0 (length (slice_index_or points p [])))
 
--- the heads of a row: one line for each place in order of number
-unfoldable pub heads_text : Case → Mesh → Row → List ℕ
-heads_text case mesh row =
-    flat_map (node_line case row) (range_with_len 0 (length case.nodes)) ++ flat_map (pipe_lines case mesh row) (range_with_len 0 (length case.pipes))
+-- the heads of a row: one line for each place in order of number, the nodes and then the places of each pipe
+unfoldable pub heads_text : Case → List NodeState → List (List Point) → List ℕ
+heads_text case states points =
+    flat_map (node_line case states) (range_with_len 0 (length case.nodes)) ++ flat_map (pipe_lines case points) (range_with_len 0 (length case.pipes))
