@@ -1,2 +1,4 @@
+pub mod Accepted
 pub mod Divided
+pub mod Fits
 pub mod Listed

@@ -2,6 +2,7 @@ pub mod Answer
 pub mod Entries
 pub mod Laws
 pub mod Outcome
+pub mod Right
 pub mod Sets
 pub mod Short
 pub mod ShortMesh

@@ -4,4 +4,5 @@
 mod building;
 mod entry;
 mod meshing;
+mod probe;
 mod rows;
