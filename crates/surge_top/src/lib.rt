@@ -2,4 +2,6 @@
 #![tactic(auto)]
 
 mod entry;
+mod fields;
+mod parts;
 mod rows;
