@@ -3,5 +3,6 @@
 
 mod entry;
 mod fields;
+mod judge;
 mod parts;
 mod rows;
