@@ -1,3 +1,4 @@
+mod Cutting
 pub mod Accepted
 pub mod Divided
 pub mod Fits

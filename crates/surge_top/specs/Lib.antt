@@ -1,6 +1,7 @@
 pub mod Answer
 pub mod Entries
 pub mod Laws
+pub mod Named
 pub mod Outcome
 pub mod Right
 pub mod Sets

@@ -3,6 +3,9 @@
 
 mod building;
 mod entry;
+mod fields;
+mod judge;
 mod meshing;
+mod parts;
 mod probe;
 mod rows;
