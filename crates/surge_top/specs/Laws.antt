@@ -23,6 +23,16 @@ use Rattle.case_model.specs.Meaning.{Meaning}
 use Rattle.case_model.specs.Mesh.{IsMesh, reaches, ends_of}
 use Rattle.case_model.specs.Places.{is_bad_state}
 
+-- an impedance, in 1e-6 s/m2, within its limits
+pub record IsImpedance (b : ℤ) : Type 0 where
+  pub low : pos 100_000 ≤ℤ b
+  pub high : b ≤ℤ pos 10_000_000_000_000
+
+-- an arrival whose characteristic value and impedance are within their limits
+pub record IsArrival (a : Arrival) : Type 0 where
+  pub value : unsigned_abs a.c ≤ 10_000_000_000_000
+  pub impedance : IsImpedance a.b
+
 -- the head in 1e-6 m that a flow in 1e-9 m3/s stands for at an impedance in 1e-6 s/m2
 abbrev pub impedance_head : ℤ → ℤ → ℤ
 impedance_head b q = rnd (b *ℤ q) (pos 1_000_000_000)

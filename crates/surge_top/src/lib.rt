@@ -1,5 +1,6 @@
 //! The top call of `surge`.
 #![tactic(auto)]
 
+mod characteristics;
 mod entry;
 mod rows;
