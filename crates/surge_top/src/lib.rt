@@ -3,4 +3,5 @@
 
 mod characteristics;
 mod entry;
+mod nodes;
 mod rows;
