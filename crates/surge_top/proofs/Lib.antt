@@ -3,3 +3,5 @@ pub mod Accepted
 pub mod Divided
 pub mod Fits
 pub mod Listed
+pub mod Quotients
+pub mod Sums

@@ -1,6 +1,6 @@
 -- The hydraulic laws that a short case needs, in whole numbers with one rounding rule.
 -- After Wylie and Streeter, Fluid Transients in Systems: characteristics, reservoir, junction.
-use Rattle.std.specs.Prelude.{◌≡◌, ◌<◌, ◌≤◌, ℕ, ◌+◌, ◌*◌, ◌==◌, ◌&&◌, not, nat_le, Bool, true, false, ℤ, pos, neg_ℤ, ◌+ℤ◌, ◌-ℤ◌, ◌*ℤ◌, ◌≤ℤ◌, unsigned_abs, Option, Some, None, if◌then◌else◌, List, [], ◌∷◌, length, map, slice_index_or}
+use Rattle.std.specs.Prelude.{◌≡◌, ◌<◌, ◌≤◌, ℕ, ◌+◌, ◌*◌, ◌==◌, ◌&&◌, not, nat_le, Bool, true, false, ℤ, pos, neg_ℤ, ◌+ℤ◌, ◌-ℤ◌, ◌*ℤ◌, ◌≤ℤ◌, unsigned_abs, Option, Some, None, if◌then◌else◌, List, [], ◌∷◌, length, map, replicate, slice_index_or}
 use Rattle.std.specs.List.{list_all}
 use Rattle.fixed_num.specs.Rounding.{rnd}
 use Rattle.case_model.specs.declared.points.Point.{Point}
@@ -22,6 +22,16 @@ use Rattle.case_model.specs.Range.{point_of, state_of}
 use Rattle.case_model.specs.Meaning.{Meaning}
 use Rattle.case_model.specs.Mesh.{IsMesh, reaches, ends_of}
 use Rattle.case_model.specs.Places.{is_bad_state}
+
+-- an impedance, in 1e-6 s/m2, within its limits
+pub record IsImpedance (b : ℤ) : Type 0 where
+  pub low : pos 100_000 ≤ℤ b
+  pub high : b ≤ℤ pos 10_000_000_000_000
+
+-- an arrival whose characteristic value and impedance are within their limits
+pub record IsArrival (a : Arrival) : Type 0 where
+  pub value : unsigned_abs a.c ≤ 10_000_000_000_000
+  pub impedance : IsImpedance a.b
 
 -- the head in 1e-6 m that a flow in 1e-9 m3/s stands for at an impedance in 1e-6 s/m2
 abbrev pub impedance_head : ℤ → ℤ → ℤ
@@ -65,24 +75,34 @@ admittance b = rnd (pos 10_000_000_000_000_000_000_000) b
 abbrev pub flow_in : ℤ → Arrival → ℤ
 flow_in h a = driven_flow (a.c -ℤ h) a.b
 
+abbrev pub weight : Arrival → ℤ
+weight a = admittance a.b
+
+abbrev pub weighted_head : Arrival → ℤ
+weighted_head a = a.c *ℤ weight a
+
 abbrev pub sum_of : (Arrival → ℤ) → List Arrival → ℤ
 sum_of f [] = pos 0
 sum_of f (a ∷ arrivals) = f a +ℤ sum_of f arrivals
 
 -- the head of a junction without demand: its inflows add to 0, but for rounding
 unfoldable pub junction_head : List Arrival → ℤ
-junction_head arrivals = rnd (sum_of (λ a. a.c *ℤ admittance a.b) arrivals) (sum_of (λ a. admittance a.b) arrivals)
+junction_head arrivals = rnd (sum_of weighted_head arrivals) (sum_of weight arrivals)
+
+-- whether a flow is in range
+abbrev pub is_flow : ℤ → Bool
+is_flow q = nat_le (unsigned_abs q) 1_000_000_000_000
 
 -- whether the head and the flow of each end are in range
 abbrev pub is_in_range : ℤ → List Arrival → Bool
-is_in_range h arrivals = nat_le (unsigned_abs h) 100_000_000_000 && list_all (λ a. nat_le (unsigned_abs (flow_in h a)) 1_000_000_000_000) arrivals
+is_in_range h arrivals = nat_le (unsigned_abs h) 100_000_000_000 && list_all is_flow (map (flow_in h) arrivals)
 
 -- a node at a head, and the flow into it along each arrival: Bad with flows 0 where a number is out of range
 unfoldable pub state_at : ℤ → List Arrival → NodeState
 state_at h arrivals = if is_in_range h arrivals then GoodState h (pos 0) (pos 0) else BadState
 
 unfoldable pub flows_at : ℤ → List Arrival → List ℤ
-flows_at h arrivals = map (λ a. if is_in_range h arrivals then flow_in h a else pos 0) arrivals
+flows_at h arrivals = if is_in_range h arrivals then map (flow_in h) arrivals else replicate (length arrivals) (pos 0)
 
 -- the head that a node of a short case takes from its arrivals
 unfoldable pub node_head : NodeKind → List Arrival → ℤ

@@ -2,10 +2,12 @@
 #![tactic(auto)]
 
 mod building;
+mod characteristics;
 mod entry;
 mod fields;
 mod judge;
 mod meshing;
+mod nodes;
 mod parts;
 mod probe;
 mod rows;
