@@ -56,7 +56,7 @@ fn half_up_u128(n: u128, d: u128) -> u128
 {
     let quotient = n / d;
     let rest = n % d;
-    if rest >= d - rest {
+    if d - rest <= rest {
         quotient + 1
     } else {
         quotient
