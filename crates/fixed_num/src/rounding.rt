@@ -25,6 +25,7 @@ fn quotient(n: i128, d: i128) -> i128
     if n < 0 { -size } else { size }
 }
 
+// Takes the fast path where both operands fit 64 bits.
 fn half_up_any(n: u128, d: u128) -> u128
     requires { 0 < d }
     ensures { result ≡ half_up n d }
