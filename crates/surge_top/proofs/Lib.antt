@@ -1,5 +1,6 @@
 mod Cutting
 pub mod Accepted
+pub mod Answering
 pub mod Divided
 pub mod Fits
 pub mod Listed

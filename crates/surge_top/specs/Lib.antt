@@ -7,5 +7,6 @@ pub mod Right
 pub mod Sets
 pub mod Short
 pub mod ShortMesh
+pub mod Status
 pub mod Sound
 pub mod Texts

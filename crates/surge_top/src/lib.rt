@@ -9,5 +9,8 @@ mod judge;
 mod meshing;
 mod nodes;
 mod parts;
-mod probe;
+mod reading;
 mod rows;
+mod status;
+
+pub use status::Status;
