@@ -3,6 +3,7 @@ pub mod Entries
 pub mod Laws
 pub mod Named
 pub mod Outcome
+pub mod Reading
 pub mod Sets
 pub mod Short
 pub mod ShortMesh

@@ -4,5 +4,9 @@
 mod entry;
 mod fields;
 mod judge;
+mod lines;
 mod parts;
+mod refusals;
 mod rows;
+
+pub use refusals::refusals_are_least;
