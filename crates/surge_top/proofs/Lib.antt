@@ -1,4 +1,6 @@
 mod Cutting
+mod LeastPair
+mod LinesRead
 pub mod Accepted
 pub mod Answering
 pub mod Divided

@@ -3,10 +3,11 @@ pub mod Entries
 pub mod Laws
 pub mod Named
 pub mod Outcome
+pub mod Reading
 pub mod Right
 pub mod Sets
 pub mod Short
 pub mod ShortMesh
-pub mod Status
 pub mod Sound
+pub mod Status
 pub mod Texts

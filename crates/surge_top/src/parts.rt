@@ -1,4 +1,4 @@
-ghost use Rattle.std.specs.Prelude.{◌≡◌, ◌==◌, ◌<◌, ◌≤◌, ◌∷◌, [], MatchOption, IfOk, length, map};
+ghost use Rattle.std.specs.Prelude.{◌≡◌, ◌==◌, ◌<◌, ◌≤◌, ◌∷◌, [], MatchOption, IfNone, IfOk, length, map};
 ghost use Rattle.std.specs.List.{position_or_len};
 ghost use Rattle.surge_top.specs.Entries.{parts};
 
@@ -21,9 +21,10 @@ pub(crate) fn split(alloc: Global, bytes: &[u8], mark: u8) -> Result<Vec<&[u8]>,
 
 /// The part before the first mark, and the text after that mark where there is one.
 pub(crate) fn cut(bytes: &[u8], mark: u8) -> (&[u8], Option<&[u8]>)
-    ensures { MatchOption result.1
+    ensures parts { MatchOption result.1
         (parts mark bytes.now ≡ result.0.now ∷ [])
         (λ rest. (parts mark bytes.now ≡ result.0.now ∷ parts mark rest.now) × (length rest.now < length bytes.now)) }
+    ensures whole { IfNone result.1 (result.0.now ≡ bytes.now) }
 {
     let end = mark_place(bytes, mark);
     if end == bytes.len() {
