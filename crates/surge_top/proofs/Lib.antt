@@ -3,6 +3,7 @@ mod LeastPair
 mod LinesRead
 pub mod Accepted
 pub mod Answering
+pub mod Counted
 pub mod Divided
 pub mod Fits
 pub mod Listed

@@ -29,7 +29,7 @@ pub pipes_next : (nodes : List Node) (es : List Entry) (i : ℕ) (e d : Entry) �
 pipes_next nodes es i e d h is =
     ap (pipes_from nodes 1) (take_more es i d h ∙ ap (λ x. take i es ++ x ∷ []) (sym is)) ∙ pipes_more nodes 1 (i + 1) (take i es) e (omega (arith, length-take-le i es (omega arith)))
 
-cons_few : {X : Type 0} (o : Option X) (xs : List X) → length (cons_option o xs) ≤ length xs + 1
+pub cons_few : {X : Type 0} (o : Option X) (xs : List X) → length (cons_option o xs) ≤ length xs + 1
 cons_few None xs = omega arith
 cons_few (Some x) xs = omega arith
 

@@ -102,8 +102,8 @@ fn is_whole(mesh: &Mesh) -> bool
 /// The mesh of a short case, or none where it isn't one of an accepted case. Takes memory for it.
 #[tactic(auto, unfolding(crate::specs::ShortMesh::mesh_of))]
 pub(crate) fn mesh_of(alloc: Global, case: &Case) -> Result<Option<Mesh>, AllocError>
-    requires nodes { length case.now.nodes ≤ 65_536 }
-    requires pipes { length case.now.pipes ≤ 65_536 }
+    requires nodes { length case.now.nodes ≤ 100_000 }
+    requires pipes { length case.now.pipes ≤ 100_000 }
     ensures { IfOk result (λ found. MatchOption found (is_whole (mesh_of case.now) ≡ false)
         (λ mesh. (mesh ≡ mesh_of case.now) × (is_whole (mesh_of case.now) ≡ true))) }
 {
