@@ -1,3 +1,4 @@
+pub mod ByteLaws
 pub mod Bytes
 pub mod Faults
 pub mod Memory
