@@ -17,3 +17,6 @@ pub use sinks::Sink;
 pub use sources::{Failed, Source};
 pub use stream::{StreamSink, StreamSource};
 pub use writing::put;
+
+#[cfg(test)]
+mod tests;
