@@ -1,4 +1,5 @@
 pub mod Bytes
 pub mod Faults
 pub mod Memory
+pub mod Pages
 pub mod Streams
