@@ -2,4 +2,5 @@ pub mod ByteLaws
 pub mod Bytes
 pub mod Faults
 pub mod Memory
+pub mod Pages
 pub mod Streams
