@@ -2,9 +2,11 @@ pub mod FaultLaws
 pub mod FirstFault
 pub mod Meaning
 pub mod Mesh
+pub mod Names
 pub mod Padding
 pub mod PlaceLaws
 pub mod Places
 pub mod Range
 pub mod RowLaws
 pub mod Rows
+pub mod Words
