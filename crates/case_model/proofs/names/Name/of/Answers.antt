@@ -11,4 +11,4 @@ invariant_of-result c = record {
 pub returns : goal.returns
 returns c =
     name_of-is _ c.args.bytes.now c.requires
-        (take_at c.copy_from_slice.new.self _ (length c.args.bytes.now) (ap length c.copy_from_slice.ensures.after) ∙ c.copy_from_slice.ensures.after)
+    (take_at c.copy_from_slice.new.self _ (length c.args.bytes.now) (ap length c.copy_from_slice.ensures.after) ∙ c.copy_from_slice.ensures.after)
