@@ -35,8 +35,8 @@ pub fn state_of(h: i128, v: i128, g: i128) -> NodeState
     ensures value { result ≡ state_from h v g }
     ensures range { IsState result }
 {
-    if h.unsigned_abs() <= 100_000_000_000
-        && v >= 0
+    if v >= 0
+        && h.unsigned_abs() <= 100_000_000_000
         && v.unsigned_abs() <= 1_000_000_000_000_000
         && g.unsigned_abs() <= 10_000_000_000_000_000
     {
