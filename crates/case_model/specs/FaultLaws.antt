@@ -1,7 +1,7 @@
-use Rattle.std.specs.Prelude.{◌≡◌, ℕ, zero, suc, ◌+◌, ◌<◌, ◌≤◌, ◌⊎◌, Bool, true, false, cond, ltb, List, length, get_or, Option, Some, None, position, refl}
+use Rattle.std.specs.Prelude.{◌≡◌, ℕ, zero, suc, ◌<◌, ◌≤◌, ◌⊎◌, Bool, true, false, cond, ltb, List, length, get_or, Option, Some, None, position, refl}
 use Rattle.std.specs.List.{position_or_len}
 use Rattle.std.specs.Option.{option_map}
-use Rattle.std.proofs.Common.{inl, inr, subst, sym, ap, arith, ◌∙◌}
+use Rattle.std.proofs.Common.{inl, inr, subst, sym, arith, ◌∙◌}
 use Rattle.std.proofs.lemmas.Bool.{false≢true, ltb-true, ltb-false}
 use Rattle.std.proofs.lemmas.Bool.Decides.{leb_tells}
 use Rattle.std.proofs.lemmas.List.{get_or_past}

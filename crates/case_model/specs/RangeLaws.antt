@@ -1,10 +1,8 @@
-use Rattle.std.specs.Prelude.{◌≡◌, ℤ, pos, ◌≤ℤ◌, ◌≤◌, Bool, true, false, ◌&&◌, cond, nat_le, int_le, unsigned_abs, refl}
-use Rattle.std.proofs.Common.{◌∙◌, ap, sym, arith}
+use Rattle.std.specs.Prelude.{◌≡◌, ℤ, pos, ◌≤ℤ◌, Bool, true, false, ◌&&◌, cond, nat_le, int_le, unsigned_abs, refl}
+use Rattle.std.proofs.Common.{ap, arith}
 use Rattle.std.proofs.lemmas.Bool.{and_from, false_from_ne_true, le-leb, leb-true}
 use Rattle.std.proofs.lemmas.Int.{ints}
-use Rattle.case_model.specs.declared.points.Point.{Point}
 use Rattle.case_model.specs.declared.points.Point.TheVariants.{Good, Bad}
-use Rattle.case_model.specs.declared.states.NodeState.{NodeState}
 use Rattle.case_model.specs.declared.states.NodeState.TheVariants.{Good as GoodState, Bad as BadState}
 use Rattle.case_model.specs.Range.{InRange, IsPoint, point_of, InStateRange, IsState, state_of}
 
