@@ -1,5 +1,6 @@
-use Rattle.std.specs.Prelude.{◌≡◌, ℕ, ◌-◌, ◌≤◌, List, ◌++◌, length, take, drop, min, replicate}
-use Rattle.std.proofs.Common.{◌∙◌, ap, subst, sym, arith}
+use Rattle.std.specs.Prelude.{◌≡◌, ℕ, ◌+◌, ◌-◌, ◌≤◌, List, ◌++◌, length, take, drop, min, replicate}
+use Rattle.std.proofs.Common.{◌∙◌, ap, subst, sym, add_comm, arith}
+use Rattle.std.proofs.Math.Nat.{add-sub_cancel, min-le_left, sub-add-min_cancel}
 use Rattle.std.proofs.Props.{props}
 use Rattle.std.proofs.lemmas.List.{drop-replicate, drop_at, length-append, length-replicate, length-take, length-take-le, take-append-drop, take_all, take_at}
 use Rattle.case_model.specs.declared.names.Name.{Name}
@@ -9,20 +10,26 @@ use Rattle.case_model.specs.Padding.{IsPadded}
 abbrev pub bytes_of : Name → List ℕ
 bytes_of name = take name.len name.bytes
 
-pub padded_to_32 : (bytes : List ℕ) → IsPadded (take 32 bytes ++ replicate (32 - length bytes) 0) (min (length bytes) 32)
-padded_to_32 bytes =
-    let l : length (take 32 bytes) ≡ min 32 (length bytes) = length-take 32 bytes in
-    record {
-      whole = omega (arith, length-append (take 32 bytes) (replicate (32 - length bytes) 0), length-replicate {A = ℕ} (32 - length bytes) 0);
-      few = omega arith;
-      rest = drop_at (take 32 bytes) (replicate (32 - length bytes) 0) (min (length bytes) 32) (omega arith) ∙ ap (λ n. replicate n 0) (omega arith);
-    }
+-- 32 is what is kept of the length and what is left to fill
+filled : (n : ℕ) → 32 - n ≡ 32 - min 32 n
+filled n = sym (add-sub_cancel (32 - n) (min 32 n)) ∙ ap (λ m. m - min 32 n) (sub-add-min_cancel 32 n)
+
+pub padded_to_32 : (bytes : List ℕ) → IsPadded (take 32 bytes ++ replicate (32 - length bytes) 0) (min 32 (length bytes))
+padded_to_32 bytes = record {
+  whole = length-append (take 32 bytes) (replicate (32 - length bytes) 0)
+      ∙ ap (λ n. n + length (replicate {A = ℕ} (32 - length bytes) 0)) (length-take 32 bytes)
+      ∙ ap (λ n. min 32 (length bytes) + n) (length-replicate {A = ℕ} (32 - length bytes) 0)
+      ∙ add_comm (min 32 (length bytes)) (32 - length bytes)
+      ∙ sub-add-min_cancel 32 (length bytes);
+  few = min-le_left 32 (length bytes);
+  rest = drop_at (take 32 bytes) (replicate (32 - length bytes) 0) (min 32 (length bytes)) (length-take 32 bytes) ∙ ap (λ n. replicate n 0) (filled (length bytes));
+}
 
 -- the name of these bytes, of which 32 count
 unfoldable pub name_of : List ℕ → Name
 name_of bytes = record {
   bytes = take 32 bytes ++ replicate (32 - length bytes) 0;
-  len = min (length bytes) 32;
+  len = min 32 (length bytes);
   padded = padded_to_32 bytes;
 }
 
@@ -60,7 +67,7 @@ pub bytes_of-name_of : (bytes : List ℕ) → length bytes ≤ 32 → bytes_of (
 unfolding name_of
 bytes_of-name_of bytes short =
     let l : length (take 32 bytes) ≡ min 32 (length bytes) = length-take 32 bytes in
-    take_at (take 32 bytes) (replicate (32 - length bytes) 0) (min (length bytes) 32) (omega arith) ∙ take_all 32 bytes short
+    take_at (take 32 bytes) (replicate (32 - length bytes) 0) (min 32 (length bytes)) l ∙ take_all 32 bytes short
 
 -- 32 zeros over whose front the bytes were written
 pub written_padded : (written bytes : List ℕ) → length bytes ≤ 32 → written ≡ bytes → IsPadded (written ++ drop (length bytes) (replicate 32 0)) (length bytes)
