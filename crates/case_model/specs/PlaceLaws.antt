@@ -77,7 +77,7 @@ bad-at_place law s p i numbered h b =
     let count : length nodes ≡ length law.mesh.ends = length-map (states law s) is_bad_state ∙ length-states law s in
     let here : get_or all p 0 ≡ p = get_or-range_with_len 0 (length law.mesh.pipes) p 0 h ∙ zero-add p in
     let before : length (flat_map f (take p all)) ≡ places_of law.mesh p =
-        ap (λ r. length (flat_map f r)) (take-range p (length law.mesh.pipes) (omega arith)) ∙ length-pipes law s p (omega arith) in
+    ap (λ r. length (flat_map f r)) (take-range p (length law.mesh.pipes) (omega arith)) ∙ length-pipes law s p (omega arith) in
     let base : base_of law.mesh p ≡ places_before law.mesh p = numbered.bases p h in
     let inside : i < length (f (get_or all p 0)) = rw here (let l : length (f p) ≡ reaches law.mesh p + 1 = length-bad_points law s p in omega arith) in
     ap (λ k. get_or (nodes ++ flat_map f all) k false) (place_sum (base_of law.mesh p) (length law.mesh.ends) (places_of law.mesh p) (length nodes) (length (flat_map f (take p all))) i base count before)
