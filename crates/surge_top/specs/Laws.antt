@@ -145,6 +145,10 @@ pipe_at case p = slice_index_or case.pipes p no_pipe
 abbrev pub impedance : Mesh → ℕ → ℤ
 impedance mesh p = (slice_index_or mesh.pipes p (record { reaches = 0; b = pos 0; r = pos 0; base = 0 })).b
 
+-- each pipe of the mesh has an impedance within its limits
+abbrev pub HasImpedances : Mesh → Type 0
+HasImpedances mesh = (p : ℕ) → p < length mesh.pipes → IsImpedance (impedance mesh p)
+
 abbrev pub arrival : ℤ → Option ℤ → Option Arrival
 arrival b (Some c) = Some (record { c = c; b = b })
 arrival b None = None
