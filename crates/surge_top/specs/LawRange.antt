@@ -17,7 +17,7 @@ use Rattle.case_model.specs.declared.states.NodeState.TheVariants.{Good as GoodS
 use Rattle.case_model.specs.Meaning.{Meaning, IsMeaning}
 use Rattle.case_model.specs.Range.{IsPoint, IsState, InRange, InStateRange, point_of, state_of}
 use Rattle.case_model.specs.Places.{is_bad_state}
-use Rattle.surge_top.specs.Laws.{met, inner_point, arrive_plus, arrive_minus, is_in_range, state_at, reads_own, node_head, node_state, end_points, law_state, law_ends, start_point, start_node, meaning_of}
+use Rattle.surge_top.specs.Laws.{met, inner_point, arrive_plus, arrive_minus, is_in_range, state_at, reads_own, node_head, node_state, end_point, end_points, law_state, law_ends, start_point, start_node, meaning_of}
 
 point_of-good : (h qu qd v : ℤ) → IsPoint (point_of h qu qd v)
 unfolding point_of
@@ -50,11 +50,14 @@ node_state-good : (kind : NodeKind) (own : NodeState) (arrivals : Option (List A
 node_state-good kind own None = tt
 node_state-good kind own (Some arrivals) = unless_bad (reads_own kind && is_bad_state own) _ (state_at-good (node_head kind arrivals) arrivals)
 
+end_point-good : (state : NodeState) (e : End) (q : ℤ) → IsPoint (end_point state e q)
+end_point-good (GoodState h v g) e q = point_of-good _ _ _ _
+end_point-good BadState e q = tt
+
 end_points-good : (state : NodeState) (ends : List End) (flows : List ℤ) → AllByRecursion IsPoint (end_points state ends flows)
 end_points-good state [] flows = tt
-end_points-good BadState (e ∷ ends) flows = (tt, end_points-good BadState ends flows)
-end_points-good (GoodState h v g) (e ∷ ends) [] = (tt, end_points-good (GoodState h v g) ends [])
-end_points-good (GoodState h v g) (e ∷ ends) (q ∷ flows) = (point_of-good _ _ _ _, end_points-good (GoodState h v g) ends flows)
+end_points-good state (e ∷ ends) [] = (tt, end_points-good state ends [])
+end_points-good state (e ∷ ends) (q ∷ flows) = (end_point-good state e q, end_points-good state ends flows)
 
 law_state-good : (case : Case) (mesh : Mesh) (k : ℕ) (own : NodeState) (near : List Point) → IsState (law_state case mesh k own near)
 unfolding law_state

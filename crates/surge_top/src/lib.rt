@@ -4,6 +4,8 @@
 mod arrivals;
 mod characteristics;
 mod entry;
+mod law;
+mod node_laws;
 mod nodes;
 mod rows;
 mod starts;
