@@ -1,23 +1,23 @@
 ghost use Rattle.std.specs.Prelude.{
-    ◌≡◌,
-    ◌<◌,
-    ◌≤◌,
-    unsigned_abs,
-    length,
-    if◌then◌else◌,
-    IfSome,
-    IsTrue,
-    All,
+  ◌≡◌,
+  ◌<◌,
+  ◌≤◌,
+  unsigned_abs,
+  length,
+  if◌then◌else◌,
+  IfSome,
+  IsTrue,
+  All,
 };
 ghost use Rattle.case_model.specs.Range.{IsPoint};
 ghost use Rattle.surge_top.specs.Laws.{
-    HasImpedances,
-    IsArrival,
-    IsImpedance,
-    arrival as arrival_at,
-    impedance as impedance_of,
-    arrival_from as arrival_of,
-    arrivals_from,
+  HasImpedances,
+  IsArrival,
+  IsImpedance,
+  arrival as arrival_at,
+  impedance as impedance_of,
+  arrival_from as arrival_of,
+  arrivals_from,
 };
 
 use crate::characteristics::{arrive_minus, arrive_plus};

@@ -3,9 +3,9 @@ ghost use Rattle.surge_top.specs.Laws.{IsComputable, meaning_of};
 ghost use Rattle.surge_top.specs.LawRange.{meaning_of-good};
 ghost use Rattle.std.proofs.Props.{props};
 
-use crate::node_laws::law_node;
 use crate::arrivals::impedance;
 use crate::characteristics::inner_point;
+use crate::node_laws::law_node;
 use crate::starts::{start_node, start_point};
 use case_model::{Arrival, Case, Law, Mesh, NodeState, Point};
 
@@ -30,10 +30,12 @@ impl<'a> ShortLaw<'a> {
 impl<'a> Law for ShortLaw<'a> {
     ghost meaning = { λ s. meaning_of s.case.now s.mesh.now };
 
+    #[tactic(auto, unfolding(crate::specs::Laws::meaning_of))]
     fn inner(&self, pipe: u32, _place: u32, left: &Point, own: &Point, right: &Point) -> Point {
         inner_point(impedance(self.mesh, pipe), left, own, right)
     }
 
+    #[tactic(auto, unfolding(crate::specs::Laws::meaning_of))]
     fn node(
         &self,
         node: u32,
@@ -45,10 +47,12 @@ impl<'a> Law for ShortLaw<'a> {
         law_node(self.case, self.mesh, node, own, near, ends)
     }
 
+    #[tactic(auto, unfolding(crate::specs::Laws::meaning_of))]
     fn start_point(&self, pipe: u32, place: u32) -> Point {
         start_point(self.case, self.mesh, pipe, place)
     }
 
+    #[tactic(auto, unfolding(crate::specs::Laws::meaning_of))]
     fn start_node(&self, node: u32) -> NodeState {
         start_node(self.case, node)
     }

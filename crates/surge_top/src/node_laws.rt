@@ -4,23 +4,23 @@ ghost use Rattle.case_model.specs.Mesh.{ends_of};
 ghost use Rattle.case_model.specs.Places.{is_bad_state};
 ghost use Rattle.case_model.specs.Range.{IsPoint};
 ghost use Rattle.surge_top.specs.Laws.{
-    IsArrival,
-    HasImpedances,
-    IsComputable,
-    node_at,
-    start_head,
-    node_head,
-    reads_own as reads_own_state,
-    node_state,
-    node_flows,
-    arrivals_from,
-    along as along_end,
-    end_point as point_at,
-    end_points as points_of,
-    state_at,
-    flows_at,
-    law_state,
-    law_ends,
+  IsArrival,
+  HasImpedances,
+  IsComputable,
+  node_at,
+  start_head,
+  node_head,
+  reads_own as reads_own_state,
+  node_state,
+  node_flows,
+  arrivals_from,
+  along as along_end,
+  end_point as point_at,
+  end_points as points_of,
+  state_at,
+  flows_at,
+  law_state,
+  law_ends,
 };
 
 use crate::arrivals::gather;
@@ -83,12 +83,7 @@ fn solve(
     answer(kind, own, arrivals, flows)
 }
 
-fn answer(
-    kind: &NodeKind,
-    own: &NodeState,
-    arrivals: &[Arrival],
-    flows: &mut [i64],
-) -> NodeState
+fn answer(kind: &NodeKind, own: &NodeState, arrivals: &[Arrival], flows: &mut [i64]) -> NodeState
     requires head_in { unsigned_abs (start_head kind.now) ≤ 100_000_000_000 }
     requires some { 0 < length arrivals.now }
     requires few { length arrivals.now ≤ 8 }

@@ -1,24 +1,24 @@
 ghost use Rattle.std.specs.Prelude.{
-    ◌≡◌,
-    ◌≤◌,
-    ◌<◌,
-    ◌≤ℤ◌,
-    ◌+ℤ◌,
-    ◌-ℤ◌,
-    ◌*ℤ◌,
-    pos,
-    unsigned_abs,
-    length,
+  ◌≡◌,
+  ◌≤◌,
+  ◌<◌,
+  ◌≤ℤ◌,
+  ◌+ℤ◌,
+  ◌-ℤ◌,
+  ◌*ℤ◌,
+  pos,
+  unsigned_abs,
+  length,
 };
 ghost use Rattle.fixed_num.specs.Rounding.{rnd as rounded};
 ghost use Rattle.case_model.specs.Mesh.{reaches as reaches_of};
 ghost use Rattle.surge_top.specs.Laws.{
-    IsComputable,
-    node_at,
-    pipe_at,
-    start_head as head_of,
-    start_node as node_from,
-    start_point as point_from,
+  IsComputable,
+  node_at,
+  pipe_at,
+  start_head as head_of,
+  start_node as node_from,
+  start_point as point_from,
 };
 
 use case_model::{Case, Mesh, NodeKind, NodeState, Point, Value, point_of, state_of};
