@@ -61,3 +61,13 @@ mean_below x w h most p k m =
 
 pub mean_size : (x heads weights : ℤ) → pos 1 ≤ℤ weights → unsigned_abs heads ≤ 10000000000000 * unsigned_abs weights → 2 * unsigned_abs x * unsigned_abs weights ≤ 2 * unsigned_abs heads + unsigned_abs weights → unsigned_abs x ≤ 10000000000000
 mean_size x heads weights p k m = mean_below (unsigned_abs x) (unsigned_abs weights) (unsigned_abs heads) 10000000000000 (omega (arith, ints)) k m
+
+-- the share of a difference of heads at a place of a pipe
+pub share_below : (difference place reaches x : ℤ) → unsigned_abs difference ≤ 200000000000 → unsigned_abs place ≤ 65536 → pos 1 ≤ℤ reaches → 2 * unsigned_abs x * unsigned_abs reaches ≤ 2 * unsigned_abs (difference *ℤ place) + unsigned_abs reaches → unsigned_abs x ≤ 13107200000000000
+share_below difference place reaches x h k p m =
+    let s : unsigned_abs (difference *ℤ place) ≤ 200000000000 * 65536 = rw (unsigned_abs-mul difference place) (mul-le (unsigned_abs difference) (unsigned_abs place) 200000000000 65536 h k) in
+    let some : 0 < unsigned_abs reaches = omega (arith, ints) in
+    mean_below (unsigned_abs x) (unsigned_abs reaches) (unsigned_abs (difference *ℤ place)) 13107200000000000 some (omega arith) m
+
+pub share_fits : (difference place : ℤ) → unsigned_abs difference ≤ 200000000000 → unsigned_abs place ≤ 65536 → FitsSigned w128 (difference *ℤ place)
+share_fits difference place h k = fits_signed_mul w128 difference place 200000000000 65536 h k (omega arith)

@@ -145,6 +145,10 @@ pipe_at case p = slice_index_or case.pipes p no_pipe
 abbrev pub impedance : Mesh → ℕ → ℤ
 impedance mesh p = (slice_index_or mesh.pipes p (record { reaches = 0; b = pos 0; r = pos 0; base = 0 })).b
 
+-- each pipe of the mesh has an impedance within its limits
+abbrev pub HasImpedances : Mesh → Type 0
+HasImpedances mesh = (p : ℕ) → p < length mesh.pipes → IsImpedance (impedance mesh p)
+
 abbrev pub arrival : ℤ → Option ℤ → Option Arrival
 arrival b (Some c) = Some (record { c = c; b = b })
 arrival b None = None
@@ -178,12 +182,16 @@ node_flows kind (Some arrivals) = flows_at (node_head kind arrivals) arrivals
 abbrev pub along : End → ℤ → ℤ
 along e q = if e.at_last then q else neg_ℤ q
 
+-- the point of a node's end, from the node's state and the flow into it along the end
+abbrev pub end_point : NodeState → End → ℤ → Point
+end_point (GoodState h v g) e q = point_of h (along e q) (along e q) (pos 0)
+end_point BadState e q = Bad
+
 -- the points of a node's ends, from its state and the flows into it: every one Bad where the state is
 abbrev pub end_points : NodeState → List End → List ℤ → List Point
 end_points state [] flows = []
-end_points BadState (e ∷ ends) flows = Bad ∷ end_points BadState ends flows
-end_points (GoodState h v g) (e ∷ ends) [] = Bad ∷ end_points (GoodState h v g) ends []
-end_points (GoodState h v g) (e ∷ ends) (q ∷ flows) = point_of h (along e q) (along e q) (pos 0) ∷ end_points (GoodState h v g) ends flows
+end_points state (e ∷ ends) [] = Bad ∷ end_points state ends []
+end_points state (e ∷ ends) (q ∷ flows) = end_point state e q ∷ end_points state ends flows
 
 -- the law of a node, from its old state and the points beside it
 unfoldable pub law_state : Case → Mesh → ℕ → NodeState → List Point → NodeState

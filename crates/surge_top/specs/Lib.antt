@@ -1,5 +1,6 @@
 pub mod Answer
 pub mod Entries
+pub mod LawRange
 pub mod Laws
 pub mod Named
 pub mod Outcome

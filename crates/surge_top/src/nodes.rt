@@ -153,3 +153,44 @@ fn are_flows(flows: &[i64]) -> bool
 {
     flows.iter().all(|q| q.unsigned_abs() <= 1_000_000_000_000)
 }
+
+#[cfg(test)]
+mod tests {
+    use super::*;
+    use crate::characteristics::{arrive_plus, inner_point};
+    use case_model::Point;
+
+    // A flow of 0.5 m3/s that stops at 129.834328 s/m2 raises the head by 64.917164 m.
+    #[test]
+    fn hand_calculations(rt: HostRuntime) {
+        let moving = Point::Good {
+            h: 100_000_000,
+            qu: 500_000_000,
+            qd: 500_000_000,
+            v: 0,
+        };
+        assert_eq!(rt; arrive_plus(129_834_328, &moving), Some(164_917_164));
+        assert_eq!(rt; inner_point(129_834_328, &moving, &moving, &moving), moving);
+        for (c, dead_end, head, flow) in [
+            (164_917_164, true, 164_917_164, 0),
+            (164_917_164, false, 100_000_000, 500_000_000),
+        ] {
+            let arrivals = [Arrival { c, b: 129_834_328 }];
+            let mut flows = [7];
+            let state = if dead_end {
+                junction(&arrivals, &mut flows)
+            } else {
+                reservoir(100_000_000, &arrivals, &mut flows)
+            };
+            assert_eq!(rt;
+                state,
+                NodeState::Good {
+                    h: head,
+                    v: 0,
+                    g: 0
+                }
+            );
+            assert_eq!(rt; flows, [flow]);
+        }
+    }
+}
