@@ -10,3 +10,6 @@ mod refusals;
 mod rows;
 
 pub use refusals::refusals_are_least;
+
+#[cfg(test)]
+mod line_tests;
