@@ -22,3 +22,6 @@ mod status;
 pub use status::Status;
 
 pub use refusals::refusals_are_least;
+
+#[cfg(test)]
+mod line_tests;
