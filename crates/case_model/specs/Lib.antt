@@ -1,8 +1,10 @@
+pub mod FaultLaws
 pub mod FirstFault
 pub mod Meaning
 pub mod Mesh
 pub mod NameFields
 pub mod Padding
+pub mod PlaceLaws
 pub mod Places
 pub mod Range
 pub mod RowLaws

@@ -3,20 +3,24 @@
 #![tactic(auto)]
 
 mod cases;
+mod faults;
 mod laws;
 mod lists;
 mod meshes;
 mod names;
+mod places;
 mod points;
 mod ranges;
 mod rows;
 mod states;
 
 pub use cases::{Case, Node, NodeKind, Pipe, Probe, ProbeAt, Table, TableKind, Value};
+pub use faults::first_fault_is_least;
 pub use laws::Law;
 pub use lists::List;
 pub use meshes::{Arrival, CavityRule, End, Mesh, PipeMesh, Through};
 pub use names::Name;
+pub use places::places_are_numbered;
 pub use points::Point;
 pub use ranges::{point_of, state_of};
 pub use rows::rows_follow_the_law;
