@@ -1,5 +1,6 @@
 pub mod FaultLaws
 pub mod FirstFault
+pub mod Lending
 pub mod Meaning
 pub mod Mesh
 pub mod NameFields
