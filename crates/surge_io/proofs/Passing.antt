@@ -26,11 +26,11 @@ front_length gone waiting piece rest n h =
 pub front_of : (start before now : Option (List ℕ)) (waiting piece text rest : List ℕ) → Passes start before waiting text → AppendsFront before now (waiting ++ piece) → AppendsFront start now (text ++ piece ++ rest)
 front_of start before now waiting piece text rest h f =
     let P : List ℕ → Type 0 = λ t. AppendsFront start now (t ++ piece ++ rest) in
-    subst P h.2
-        ( length h.0 + f.0
-        , front_length h.0 waiting piece rest f.0 f.1
-        , subst (Appends start now) (front_text h.0 waiting piece rest f.0 f.1) (Appends-then start before now h.0 (take f.0 (waiting ++ piece)) h.1 f.2)
-        )
+    subst P h.2 (
+      length h.0 + f.0,
+      front_length h.0 waiting piece rest f.0 f.1,
+      subst (Appends start now) (front_text h.0 waiting piece rest f.0 f.1) (Appends-then start before now h.0 (take f.0 (waiting ++ piece)) h.1 f.2),
+    )
 
 -- a page that was written in part
 pub finishes_front : (before now : Option (List ℕ)) (waiting : List ℕ) → AppendsFront before now waiting → FinishesFront before waiting now
@@ -47,11 +47,11 @@ adds_nothing before now waiting piece f start text rest h =
 
 -- a piece that was written behind an empty page
 pub adds_written : (before mid now : Option (List ℕ)) (waiting still piece : List ℕ) → Finishes before waiting mid → still ≡ [] → Appends mid now piece → Adds before waiting now still piece
-adds_written before mid now waiting still piece f e k start text h =
-    ( text ++ piece
-    , Appends-then start mid now text piece (f start text h) k
-    , rw e (append-nil (text ++ piece))
-    )
+adds_written before mid now waiting still piece f e k start text h = (
+  text ++ piece,
+  Appends-then start mid now text piece (f start text h) k,
+  rw e (append-nil (text ++ piece)),
+)
 
 -- a piece that was written in part behind an empty page
 pub adds_front : (before mid now : Option (List ℕ)) (waiting piece : List ℕ) → Finishes before waiting mid → AppendsFront mid now piece → AddsFront before waiting now piece

@@ -76,3 +76,39 @@ fn a_stream_takes_all_until_its_room_ends(rt: HostRuntime) -> Result<(), Fail> {
     assert_eq!(rt; room.as_slice(), b"water hammerwater ha".as_slice());
     Ok(())
 }
+
+#[test]
+fn a_page_writes_once_it_is_full_and_loses_what_it_could_not_write(
+    rt: HostRuntime,
+) -> Result<(), Fail> {
+    let failing = [2].to_vec(rt.alloc())?;
+    let mut sink = MemorySink::make(rt.alloc(), 20_000, failing)?;
+    let mut page = Page::new();
+    // 682 pieces of 12 bytes fit into the 8,192 bytes
+    for _ in 0..1_000 {
+        assert_eq!(rt; page.add(&mut sink, b"water hammer"), Ok(()));
+    }
+    assert_eq!(rt; sink.bytes().len(), 8_184);
+    assert_eq!(rt; page.flush(&mut sink), Err(Failed));
+    let mut line = Line::new();
+    line.push(b"surge");
+    assert_eq!(rt; page.add(&mut sink, line.as_bytes()), Ok(()));
+    assert_eq!(rt; page.flush(&mut sink), Ok(()));
+    assert_eq!(rt; sink.bytes().len(), 8_189);
+    assert!(rt; sink.bytes().ends_with(b"hammersurge"));
+    Ok(())
+}
+
+#[test]
+fn a_piece_longer_than_a_page_goes_behind_what_waits(rt: HostRuntime) -> Result<(), Fail> {
+    let failing = [].to_vec(rt.alloc())?;
+    let mut sink = MemorySink::make(rt.alloc(), 20_000, failing)?;
+    let long = vec![in rt.alloc(); b'x'; 9_000]?;
+    let mut page = Page::new();
+    assert_eq!(rt; page.add(&mut sink, b"surge"), Ok(()));
+    assert_eq!(rt; sink.bytes().len(), 0);
+    assert_eq!(rt; page.add(&mut sink, long.as_slice()), Ok(()));
+    assert_eq!(rt; sink.bytes().len(), 9_005);
+    assert!(rt; sink.bytes().starts_with(b"surgex"));
+    Ok(())
+}

@@ -4,7 +4,7 @@ use Rattle.surge_io.proofs.Passing.{adds_nothing, adds_written, adds_front}
 use Rattle.surge_io.proofs.page.Page.add.Goals as goal
 
 pub returns-in_err-flush-clause-front : goal.returns-in_err-flush-clause-front
-returns-in_err-flush-clause-front g c = 
+returns-in_err-flush-clause-front g c =
     let h = adds_nothing (g.K.Sink.held c.args.out.now) (g.K.Sink.held c.flush.new.out) c.args.self.now c.args.piece.now c.in_err-flush.ensures.front in
     search rules
 
