@@ -1,9 +1,16 @@
+pub mod FaultLaws
 pub mod FirstFault
+pub mod Lending
 pub mod Meaning
 pub mod Mesh
 pub mod NameFields
+pub mod Names
 pub mod Padding
+pub mod PlaceLaws
 pub mod Places
 pub mod Range
+pub mod RangeLaws
 pub mod RowLaws
 pub mod Rows
+pub mod WordLaws
+pub mod Words

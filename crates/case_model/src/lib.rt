@@ -3,21 +3,32 @@
 #![tactic(auto)]
 
 mod cases;
+mod faults;
 mod laws;
 mod lists;
 mod meshes;
 mod names;
+mod naming;
+mod places;
 mod points;
 mod ranges;
 mod rows;
 mod states;
+mod words;
 
 pub use cases::{Case, Node, NodeKind, Pipe, Probe, ProbeAt, Table, TableKind, Value};
+pub use faults::first_fault_is_least;
 pub use laws::Law;
 pub use lists::List;
 pub use meshes::{Arrival, CavityRule, End, Mesh, PipeMesh, Through};
 pub use names::Name;
+pub use naming::names_are_their_bytes;
+pub use places::places_are_numbered;
 pub use points::Point;
-pub use ranges::{point_of, state_of};
+pub use ranges::{good_is_in_range, point_of, state_of};
 pub use rows::rows_follow_the_law;
 pub use states::NodeState;
+pub use words::{from_words, to_words, words_tell_the_point};
+
+#[cfg(test)]
+mod tests;

@@ -17,6 +17,11 @@ impl<T> Model for List<T> {
 }
 
 impl<T> List<T> {
+    ghost use Rattle.std.specs.Prelude.{List as Items, length};
+    ghost use Rattle.std.specs.Borrow.{sem, Lends, Array};
+    ghost use Rattle.case_model.specs.Lending.{rewritten};
+    ghost use Rattle.case_model.specs.contracts.lists.List.{the_row};
+
     /// The list of these items. Takes no memory.
     pub fn over(items: Vec<T>) -> List<T>
         ensures { result ≡ items.items }
@@ -29,6 +34,15 @@ impl<T> List<T> {
         ensures { result.now ≡ self.now }
     {
         self.items.as_slice()
+    }
+
+    /// The items, lent for writing.
+    pub fn as_mut_slice(&mut self) -> &mut [T]
+        ensures* writes_back { sem 𝓛 (Lends (the_row T.row) (Array T.row 0) self.entry result (rewritten self.old)) }
+        ensures value { result.now ≡ self.old }
+        ensures same_length { (items : Items T) → length items ≡ length self.old → rewritten self.old items ≡ items }
+    {
+        self.items.as_mut_slice()
     }
 
     /// The items, given back. Takes no memory.

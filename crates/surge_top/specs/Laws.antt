@@ -1,6 +1,6 @@
 -- The hydraulic laws that a short case needs, in whole numbers with one rounding rule.
 -- After Wylie and Streeter, Fluid Transients in Systems: characteristics, reservoir, junction.
-use Rattle.std.specs.Prelude.{◌≡◌, ◌<◌, ◌≤◌, ℕ, ◌+◌, ◌*◌, ◌==◌, ◌&&◌, not, nat_le, Bool, true, false, ℤ, pos, neg_ℤ, ◌+ℤ◌, ◌-ℤ◌, ◌*ℤ◌, ◌≤ℤ◌, unsigned_abs, Option, Some, None, if◌then◌else◌, List, [], ◌∷◌, length, map, slice_index_or}
+use Rattle.std.specs.Prelude.{◌≡◌, ◌<◌, ◌≤◌, ℕ, ◌+◌, ◌*◌, ◌==◌, ◌&&◌, not, nat_le, Bool, true, false, ℤ, pos, neg_ℤ, ◌+ℤ◌, ◌-ℤ◌, ◌*ℤ◌, ◌≤ℤ◌, unsigned_abs, Option, Some, None, if◌then◌else◌, List, [], ◌∷◌, length, map, replicate, slice_index_or}
 use Rattle.std.specs.List.{list_all}
 use Rattle.fixed_num.specs.Rounding.{rnd}
 use Rattle.case_model.specs.declared.points.Point.{Point}
@@ -22,6 +22,16 @@ use Rattle.case_model.specs.Range.{point_of, state_of}
 use Rattle.case_model.specs.Meaning.{Meaning}
 use Rattle.case_model.specs.Mesh.{IsMesh, reaches, ends_of}
 use Rattle.case_model.specs.Places.{is_bad_state}
+
+-- an impedance, in 1e-6 s/m2, within its limits
+pub record IsImpedance (b : ℤ) : Type 0 where
+  pub low : pos 100_000 ≤ℤ b
+  pub high : b ≤ℤ pos 10_000_000_000_000
+
+-- an arrival whose characteristic value and impedance are within their limits
+pub record IsArrival (a : Arrival) : Type 0 where
+  pub value : unsigned_abs a.c ≤ 10_000_000_000_000
+  pub impedance : IsImpedance a.b
 
 -- the head in 1e-6 m that a flow in 1e-9 m3/s stands for at an impedance in 1e-6 s/m2
 abbrev pub impedance_head : ℤ → ℤ → ℤ
@@ -65,24 +75,34 @@ admittance b = rnd (pos 10_000_000_000_000_000_000_000) b
 abbrev pub flow_in : ℤ → Arrival → ℤ
 flow_in h a = driven_flow (a.c -ℤ h) a.b
 
+abbrev pub weight : Arrival → ℤ
+weight a = admittance a.b
+
+abbrev pub weighted_head : Arrival → ℤ
+weighted_head a = a.c *ℤ weight a
+
 abbrev pub sum_of : (Arrival → ℤ) → List Arrival → ℤ
 sum_of f [] = pos 0
 sum_of f (a ∷ arrivals) = f a +ℤ sum_of f arrivals
 
 -- the head of a junction without demand: its inflows add to 0, but for rounding
 unfoldable pub junction_head : List Arrival → ℤ
-junction_head arrivals = rnd (sum_of (λ a. a.c *ℤ admittance a.b) arrivals) (sum_of (λ a. admittance a.b) arrivals)
+junction_head arrivals = rnd (sum_of weighted_head arrivals) (sum_of weight arrivals)
+
+-- whether a flow is in range
+abbrev pub is_flow : ℤ → Bool
+is_flow q = nat_le (unsigned_abs q) 1_000_000_000_000
 
 -- whether the head and the flow of each end are in range
 abbrev pub is_in_range : ℤ → List Arrival → Bool
-is_in_range h arrivals = nat_le (unsigned_abs h) 100_000_000_000 && list_all (λ a. nat_le (unsigned_abs (flow_in h a)) 1_000_000_000_000) arrivals
+is_in_range h arrivals = nat_le (unsigned_abs h) 100_000_000_000 && list_all is_flow (map (flow_in h) arrivals)
 
 -- a node at a head, and the flow into it along each arrival: Bad with flows 0 where a number is out of range
 unfoldable pub state_at : ℤ → List Arrival → NodeState
 state_at h arrivals = if is_in_range h arrivals then GoodState h (pos 0) (pos 0) else BadState
 
 unfoldable pub flows_at : ℤ → List Arrival → List ℤ
-flows_at h arrivals = map (λ a. if is_in_range h arrivals then flow_in h a else pos 0) arrivals
+flows_at h arrivals = if is_in_range h arrivals then map (flow_in h) arrivals else replicate (length arrivals) (pos 0)
 
 -- the head that a node of a short case takes from its arrivals
 unfoldable pub node_head : NodeKind → List Arrival → ℤ
@@ -125,6 +145,10 @@ pipe_at case p = slice_index_or case.pipes p no_pipe
 abbrev pub impedance : Mesh → ℕ → ℤ
 impedance mesh p = (slice_index_or mesh.pipes p (record { reaches = 0; b = pos 0; r = pos 0; base = 0 })).b
 
+-- each pipe of the mesh has an impedance within its limits
+abbrev pub HasImpedances : Mesh → Type 0
+HasImpedances mesh = (p : ℕ) → p < length mesh.pipes → IsImpedance (impedance mesh p)
+
 abbrev pub arrival : ℤ → Option ℤ → Option Arrival
 arrival b (Some c) = Some (record { c = c; b = b })
 arrival b None = None
@@ -158,12 +182,16 @@ node_flows kind (Some arrivals) = flows_at (node_head kind arrivals) arrivals
 abbrev pub along : End → ℤ → ℤ
 along e q = if e.at_last then q else neg_ℤ q
 
+-- the point of a node's end, from the node's state and the flow into it along the end
+abbrev pub end_point : NodeState → End → ℤ → Point
+end_point (GoodState h v g) e q = point_of h (along e q) (along e q) (pos 0)
+end_point BadState e q = Bad
+
 -- the points of a node's ends, from its state and the flows into it: every one Bad where the state is
 abbrev pub end_points : NodeState → List End → List ℤ → List Point
 end_points state [] flows = []
-end_points BadState (e ∷ ends) flows = Bad ∷ end_points BadState ends flows
-end_points (GoodState h v g) (e ∷ ends) [] = Bad ∷ end_points (GoodState h v g) ends []
-end_points (GoodState h v g) (e ∷ ends) (q ∷ flows) = point_of h (along e q) (along e q) (pos 0) ∷ end_points (GoodState h v g) ends flows
+end_points state (e ∷ ends) [] = Bad ∷ end_points state ends []
+end_points state (e ∷ ends) (q ∷ flows) = end_point state e q ∷ end_points state ends flows
 
 -- the law of a node, from its old state and the points beside it
 unfoldable pub law_state : Case → Mesh → ℕ → NodeState → List Point → NodeState

@@ -1,6 +1,6 @@
 -- The short case: what its text means, or its first refusal. The rules are sets over all lines at once.
-use Rattle.std.specs.Prelude.{ℕ, ◌+◌, ◌-◌, ◌*◌, ◌/◌, ◌%◌, ◌==◌, ◌&&◌, ◌||◌, not, nat_lt, nat_le, Bool, true, false, ℤ, pos, neg_ℤ, Option, Some, None, Result, Ok, Err, if◌then◌else◌, List, [], ◌∷◌, ◌++◌, length, take, map, slice_index_or}
-use Rattle.std.specs.List.{list_any, list_all, position_or_len, range_with_len}
+use Rattle.std.specs.Prelude.{ℕ, ◌+◌, ◌-◌, ◌/◌, ◌%◌, ◌==◌, ◌&&◌, ◌||◌, not, nat_lt, nat_le, Bool, true, false, ℤ, pos, neg_ℤ, Option, Some, None, List, [], ◌∷◌, length, take, slice_index_or}
+use Rattle.std.specs.List.{list_any, position_or_len, cons_option}
 use Rattle.std.specs.Str.{bytes_eq}
 use Rattle.case_model.specs.declared.cases.Case.{Case}
 use Rattle.case_model.specs.declared.cases.Node.{Node}
@@ -14,8 +14,7 @@ use Rattle.case_model.specs.declared.meshes.PipeMesh.{PipeMesh}
 use Rattle.case_model.specs.declared.meshes.Mesh.{Mesh}
 use Rattle.surge_top.specs.declared.entry.Entry.{Entry}
 use Rattle.surge_top.specs.declared.entry.Entry.TheVariants.{Heading, OpenHeading, Step, Steps, Reservoir, Junction, Pipe as PipeLine, Other}
-use Rattle.surge_top.specs.Sets.{Rules, Refusal, least_of}
-use Rattle.surge_top.specs.Entries.{entries}
+use Rattle.surge_top.specs.Sets.{Rules}
 
 -- whether a line is one of these
 abbrev pub is_heading : Entry → Bool
@@ -136,26 +135,30 @@ line_rules es line number =
     (nat_lt 0 line && nat_le line (length es) && breaks (take (line - 1) es) (entry_at es (line - 1)) number)
     || ((length es == 0) && (line == 1) && (number == 1))
 
--- the nodes of the lines from this line on, in file order
+-- the node that a line says, if any
 abbrev pub node : ℕ → List ℕ → NodeKind → Node
 node line name kind = record { name = name; line = line; elevation = pos 0; kind = kind }
 
+abbrev pub node_said : ℕ → Entry → Option Node
+node_said line Heading = None
+node_said line OpenHeading = None
+node_said line (Step dt) = None
+node_said line (Steps count) = None
+node_said line (Reservoir name head) = Some (node line name (ReservoirKind (Fixed head)))
+node_said line (Junction name start) = Some (node line name (JunctionKind (Fixed (pos 0)) start))
+node_said line (PipeLine name first last long flow) = None
+node_said line Other = None
+
+-- the nodes of these lines in file order, of which the first has the number `line`
 abbrev pub nodes_from : ℕ → List Entry → List Node
 nodes_from line [] = []
-nodes_from line (Heading ∷ es) = nodes_from (line + 1) es
-nodes_from line (OpenHeading ∷ es) = nodes_from (line + 1) es
-nodes_from line (Step dt ∷ es) = nodes_from (line + 1) es
-nodes_from line (Steps count ∷ es) = nodes_from (line + 1) es
-nodes_from line (Reservoir name head ∷ es) = node line name (ReservoirKind (Fixed head)) ∷ nodes_from (line + 1) es
-nodes_from line (Junction name start ∷ es) = node line name (JunctionKind (Fixed (pos 0)) start) ∷ nodes_from (line + 1) es
-nodes_from line (PipeLine name first last long flow ∷ es) = nodes_from (line + 1) es
-nodes_from line (Other ∷ es) = nodes_from (line + 1) es
+nodes_from line (e ∷ es) = cons_option (node_said line e) (nodes_from (line + 1) es)
 
 -- the index of the node of this name
 abbrev pub node_index : List Node → List ℕ → ℕ
 node_index nodes name = position_or_len (λ n. bytes_eq n.name name) nodes
 
--- the pipes of the lines from this line on, in file order: 1 m wide, 1,000 m/s, no friction
+-- the pipe that a line says, if any: 1 m wide, 1,000 m/s, no friction
 abbrev pub pipe : List Node → ℕ → List ℕ → List ℕ → List ℕ → ℕ → ℤ → Pipe
 pipe nodes line name first last long flow = record {
   name = name;
@@ -169,16 +172,20 @@ pipe nodes line name first last long flow = record {
   flow = flow;
 }
 
+abbrev pub pipe_said : List Node → ℕ → Entry → Option Pipe
+pipe_said nodes line Heading = None
+pipe_said nodes line OpenHeading = None
+pipe_said nodes line (Step dt) = None
+pipe_said nodes line (Steps count) = None
+pipe_said nodes line (Reservoir name head) = None
+pipe_said nodes line (Junction name start) = None
+pipe_said nodes line (PipeLine name first last long flow) = Some (pipe nodes line name first last long flow)
+pipe_said nodes line Other = None
+
+-- the pipes of these lines in file order, of which the first has the number `line`
 abbrev pub pipes_from : List Node → ℕ → List Entry → List Pipe
 pipes_from nodes line [] = []
-pipes_from nodes line (Heading ∷ es) = pipes_from nodes (line + 1) es
-pipes_from nodes line (OpenHeading ∷ es) = pipes_from nodes (line + 1) es
-pipes_from nodes line (Step dt ∷ es) = pipes_from nodes (line + 1) es
-pipes_from nodes line (Steps count ∷ es) = pipes_from nodes (line + 1) es
-pipes_from nodes line (Reservoir name head ∷ es) = pipes_from nodes (line + 1) es
-pipes_from nodes line (Junction name start ∷ es) = pipes_from nodes (line + 1) es
-pipes_from nodes line (PipeLine name first last long flow ∷ es) = pipe nodes line name first last long flow ∷ pipes_from nodes (line + 1) es
-pipes_from nodes line (Other ∷ es) = pipes_from nodes (line + 1) es
+pipes_from nodes line (e ∷ es) = cons_option (pipe_said nodes line e) (pipes_from nodes (line + 1) es)
 
 -- the case that the lines say; what they don't say has its default
 unfoldable pub case_of : List Entry → Case

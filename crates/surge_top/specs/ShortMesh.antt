@@ -1,6 +1,6 @@
 -- The mesh of a short case, and what its text means as a whole.
-use Rattle.std.specs.Prelude.{ℕ, ◌+◌, ◌/◌, ◌==◌, ◌&&◌, not, nat_lt, nat_le, Bool, true, false, ℤ, pos, unsigned_abs, Option, Some, None, Result, Ok, Err, if◌then◌else◌, List, [], ◌∷◌, ◌++◌, length, map}
-use Rattle.std.specs.List.{list_all, range_with_len}
+use Rattle.std.specs.Prelude.{ℕ, ◌+◌, ◌/◌, ◌==◌, ◌&&◌, nat_lt, nat_le, Bool, true, false, ℤ, pos, unsigned_abs, Option, Some, None, Result, Ok, Err, if◌then◌else◌, List, [], ◌∷◌, length, map}
+use Rattle.std.specs.List.{list_all, range_with_len, cons_option}
 use Rattle.case_model.specs.declared.cases.Case.{Case}
 use Rattle.case_model.specs.declared.cases.Pipe.{Pipe}
 use Rattle.case_model.specs.declared.meshes.End.{End}
@@ -12,36 +12,37 @@ use Rattle.surge_top.specs.Entries.{entries}
 use Rattle.surge_top.specs.Short.{line_rules, case_of}
 
 -- how many reaches of 1,000 m/s times the time step a pipe has
-abbrev pub reach_count : ℤ → Pipe → ℕ
-reach_count dt p = unsigned_abs p.length / unsigned_abs dt
+abbrev pub reach_count : ℕ → Pipe → ℕ
+reach_count dt p = unsigned_abs p.length / dt
 
 -- the pipes in reaches, in file order; the first place of the first one has the number `base`.
 -- A pipe 1 m wide at 1,000 m/s has the impedance 129.834328 s/m2.
-abbrev pub pipe_meshes : ℤ → ℕ → List Pipe → List PipeMesh
+abbrev pub pipe_meshes : ℕ → ℕ → List Pipe → List PipeMesh
 pipe_meshes dt base [] = []
 pipe_meshes dt base (p ∷ ps) =
     record { reaches = reach_count dt p; b = pos 129_834_328; r = pos 0; base = base }
     ∷ pipe_meshes dt (base + (reach_count dt p + 1)) ps
 
 -- the count of places, where the first place of the first pipe has the number `base`
-abbrev pub places_from : ℤ → ℕ → List Pipe → ℕ
+abbrev pub places_from : ℕ → ℕ → List Pipe → ℕ
 places_from dt base [] = base
 places_from dt base (p ∷ ps) = places_from dt (base + (reach_count dt p + 1)) ps
 
--- the ends of a node in these pipes, of which the first has the index `index`
+-- an end of the pipe of this index, where it is one of the node
+abbrev pub end_if : Bool → ℕ → Bool → Option End
+end_if here index at_last = if here then Some (record { pipe = index; at_last = at_last }) else None
+
+-- the ends of a node in these pipes in file order, of which the first has the index `index`
 abbrev pub ends_at : ℕ → ℕ → List Pipe → List End
 ends_at k index [] = []
-ends_at k index (p ∷ ps) =
-    (if p.first == k then record { pipe = index; at_last = false } ∷ [] else [])
-    ++ (if p.last == k then record { pipe = index; at_last = true } ∷ [] else [])
-    ++ ends_at k (index + 1) ps
+ends_at k index (p ∷ ps) = cons_option (end_if (p.first == k) index false) (cons_option (end_if (p.last == k) index true) (ends_at k (index + 1) ps))
 
 -- the mesh of a short case
 unfoldable pub mesh_of : Case → Mesh
 mesh_of case = record {
-  pipes = pipe_meshes case.dt (length case.nodes) case.pipes;
+  pipes = pipe_meshes (unsigned_abs case.dt) (length case.nodes) case.pipes;
   ends = map (λ k. ends_at k 0 case.pipes) (range_with_len 0 (length case.nodes));
-  places = places_from case.dt (length case.nodes) case.pipes;
+  places = places_from (unsigned_abs case.dt) (length case.nodes) case.pipes;
 }
 
 -- whether so many ends are accepted at a node
