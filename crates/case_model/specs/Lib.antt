@@ -4,7 +4,6 @@ pub mod Lending
 pub mod Meaning
 pub mod Mesh
 pub mod NameFields
-pub mod Names
 pub mod Padding
 pub mod PlaceLaws
 pub mod Places

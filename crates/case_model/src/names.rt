@@ -35,37 +35,15 @@ impl Name {
     {
         let mut padded = [0; 32];
         padded[..bytes.len()].copy_from_slice(bytes);
-        Name { bytes: padded, len: bytes.len() as u8 }
-    }
-
-    /// The bytes of the name.
-    pub fn as_bytes(&self) -> &[u8]
-        ensures { result.now ≡ self.now }
-    {
-        &self.bytes[..self.len as usize]
-    }
-}
-
-impl Name {
-    ghost use Rattle.std.specs.Prelude.{◌≡◌, ◌≤◌, length};
-    ghost use Rattle.case_model.specs.Names.{bytes_of, name_of};
-
-    /// The name with these bytes, at most 32.
-    pub fn of(bytes: &[u8]) -> Name
-        requires { length bytes.now ≤ 32 }
-        ensures { result ≡ name_of bytes.now }
-    {
-        let mut padded = [0; 32];
-        padded[..bytes.len()].copy_from_slice(bytes);
         Name {
             bytes: padded,
             len: bytes.len() as u8,
         }
     }
 
-    /// The bytes of the name, without the zeros behind them.
+    /// The bytes of the name.
     pub fn as_bytes(&self) -> &[u8]
-        ensures { result.now ≡ bytes_of self.now }
+        ensures { result.now ≡ self.now }
     {
         &self.bytes[..self.len as usize]
     }
