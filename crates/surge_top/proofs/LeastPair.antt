@@ -1,5 +1,5 @@
 -- The refusal of lines is the least pair of the rules that they break.
-use Rattle.std.proofs.Common.{ℕ, zero, suc, ◌+◌, ◌-◌, ◌<◌, ◌≤◌, ◌≡◌, ◌⊎◌, inl, inr, true, false, Bool, ◌==◌, ◌&&◌, ◌||◌, not, nat_lt, nat_le, cond, IsTrue, List, [], ◌∷◌, length, take, Option, Some, None, MatchOption, ap, subst, sym, ◌∙◌, refl, arith}
+use Rattle.std.proofs.Common.{ℕ, zero, suc, ◌+◌, ◌-◌, ◌<◌, ◌≤◌, ◌≡◌, ◌⊎◌, inl, inr, true, false, Bool, cond, IsTrue, List, [], ◌∷◌, length, take, Option, Some, None, ap, subst, sym, ◌∙◌, refl, arith}
 use Rattle.std.specs.List.{find, range_with_len}
 use Rattle.surge_top.specs.declared.entry.Entry.{Entry}
 use Rattle.surge_top.specs.Sets.{Rules, Refusal, IsEmpty, IsLeast, least_of, on_line}
@@ -43,22 +43,25 @@ here_or_later from l h = grind arith
 
 first_on : (rules : Rules) (from count : ℕ) (o : Option ℕ) (later : Option Refusal) → FindsLeast (rules from) o → FindsFirst rules (from + 1) count later → FindsFirst rules from (suc count) (on_line from o later)
 first_on rules from count (Some r) later f g = record {
-    broken = f.broken;
-    after = omega arith;
-    least = λ l n a b k h. elim (here_or_later from l a) [
-      inl e ↦ inr (e, f.least n k (subst (λ (x : ℕ). IsTrue (rules x n)) (sym e) h))
-      | inr e ↦ inl (omega arith) ];
-  }
+  broken = f.broken;
+  after = omega arith;
+  least = λ l n a b k h. elim (here_or_later from l a) [
+    | inl e ↦ inr (e, f.least n k (subst (λ (x : ℕ). IsTrue (rules x n)) (sym e) h))
+    | inr e ↦ inl (omega arith)
+  ];
+}
 first_on rules from count None None f g = λ l n a b k h. elim (here_or_later from l a) [
-    inl e ↦ f n k (subst (λ (x : ℕ). IsTrue (rules x n)) (sym e) h)
-    | inr e ↦ g l n e (omega arith) k h ]
+  | inl e ↦ f n k (subst (λ (x : ℕ). IsTrue (rules x n)) (sym e) h)
+  | inr e ↦ g l n e (omega arith) k h
+]
 first_on rules from count None (Some r) f g = record {
-    broken = g.broken;
-    after = omega (arith, g.after);
-    least = λ l n a b k h. elim (here_or_later from l a) [
-      inl e ↦ absurd (f n k (subst (λ (x : ℕ). IsTrue (rules x n)) (sym e) h))
-      | inr e ↦ g.least l n e (omega arith) k h ];
-  }
+  broken = g.broken;
+  after = omega (arith, g.after);
+  least = λ l n a b k h. elim (here_or_later from l a) [
+    | inl e ↦ absurd (f n k (subst (λ (x : ℕ). IsTrue (rules x n)) (sym e) h))
+    | inr e ↦ g.least l n e (omega arith) k h
+  ];
+}
 
 first : (rules : Rules) (from count : ℕ) → FindsFirst rules from count (least_of rules (1 ∷ 7 ∷ 90 ∷ []) (range_with_len from count))
 first rules from zero = λ l n a b k h. absurd (omega arith)

@@ -14,15 +14,31 @@ pub enum Entry {
     /// `surge 1` without its line end.
     OpenHeading,
     /// The time step, in 1e-6 s.
-    Step { dt: u64 },
+    Step {
+        dt: u64,
+    },
     /// The count of steps.
-    Steps { count: u64 },
+    Steps {
+        count: u64,
+    },
     /// A reservoir and its head, in 1e-6 m.
-    Reservoir { name: Name, head: i64 },
+    Reservoir {
+        name: Name,
+        head: i64,
+    },
     /// A junction and its head at step 0, in 1e-6 m.
-    Junction { name: Name, start: i64 },
+    Junction {
+        name: Name,
+        start: i64,
+    },
     /// A pipe, the names of its nodes, its length in 1e-3 m and its flow at step 0 in 1e-9 m3/s.
-    Pipe { name: Name, first: Name, last: Name, length: u64, flow: i64 },
+    Pipe {
+        name: Name,
+        first: Name,
+        last: Name,
+        length: u64,
+        flow: i64,
+    },
     /// None of these.
     Other,
 }
@@ -141,7 +157,9 @@ fn steps_entry(text: &[u8]) -> Entry
     ensures named { IsNamed result }
 {
     match number_within(text, 0, 1, 100_000_000) {
-        Some(count) => Entry::Steps { count: count as u64 },
+        Some(count) => Entry::Steps {
+            count: count as u64,
+        },
         None => Entry::Other,
     }
 }
@@ -161,7 +179,10 @@ fn reservoir_entry(name: &[u8], head: &[u8]) -> Entry
     ensures named { IsNamed result }
 {
     match head_within(head) {
-        Some(head) => Entry::Reservoir { name: Name::of(name), head },
+        Some(head) => Entry::Reservoir {
+            name: Name::of(name),
+            head,
+        },
         None => Entry::Other,
     }
 }
@@ -173,7 +194,10 @@ fn junction_entry(name: &[u8], start: &[u8]) -> Entry
     ensures named { IsNamed result }
 {
     match head_within(start) {
-        Some(start) => Entry::Junction { name: Name::of(name), start },
+        Some(start) => Entry::Junction {
+            name: Name::of(name),
+            start,
+        },
         None => Entry::Other,
     }
 }

@@ -52,13 +52,7 @@ fn limited(low: i64, high: i64, number: Result<i64, NumberFault>) -> Option<i64>
     ensures limits { IfSome result (λ x. (low ≤ℤ x) × (x ≤ℤ high)) }
 {
     match number {
-        Ok(x) => {
-            if low <= x && x <= high {
-                Some(x)
-            } else {
-                None
-            }
-        }
+        Ok(x) => { if low <= x && x <= high { Some(x) } else { None } }
         Err(_) => None,
     }
 }

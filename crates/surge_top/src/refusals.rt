@@ -11,5 +11,4 @@ pub fn refusals_are_least()
     ensures none { (es : List Entry) → refusal_of es ≡ None → IsEmpty (line_rules es) }
     ensures only { (es : List Entry) (line number : ℕ) → IsLeast (line_rules es) line number → refusal_of es ≡ Some (record { number = number; line = line }) }
     ensures empty { (es : List Entry) → IsEmpty (line_rules es) → refusal_of es ≡ None }
-{
-}
+{}

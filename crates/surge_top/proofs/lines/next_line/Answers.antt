@@ -1,6 +1,6 @@
-use Rattle.std.proofs.Common.{◌≡◌, ◌∷◌, [], ◌∙◌, ap, sym, List, ℕ}
+use Rattle.std.proofs.Common.{◌∷◌, [], ◌∙◌, ap, sym}
 use Rattle.surge_top.specs.declared.entry.Entry.{Entry}
-use Rattle.surge_top.specs.Entries.{entries, parts}
+use Rattle.surge_top.specs.Entries.{entries}
 use Rattle.surge_top.proofs.LinesRead.{entries_more, entries_last}
 use Rattle.surge_top.proofs.lines.next_line.Goals as goal
 

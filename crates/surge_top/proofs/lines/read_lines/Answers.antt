@@ -1,4 +1,4 @@
-use Rattle.std.proofs.Common.{◌≡◌, ◌+◌, ◌<◌, ◌∙◌, sym, rules, length}
+use Rattle.std.proofs.Common.{◌+◌, ◌∙◌, sym, rules}
 use Rattle.surge_top.specs.Entries.{entries}
 use Rattle.surge_top.proofs.LeastPair.{refusal_is, refusal_none}
 use Rattle.surge_top.proofs.LinesRead.{refused_least, none_least, all_kept, read_out, no_lines}

@@ -1,4 +1,4 @@
-use Rattle.std.proofs.Common.{arith, length, ◌<◌, ◌≤◌}
+use Rattle.std.proofs.Common.{arith, length, ◌<◌}
 use Rattle.surge_top.proofs.Cutting.{parts_none, parts_first, shorter}
 use Rattle.surge_top.proofs.parts.cut.Goals as goal
 
