@@ -5,7 +5,7 @@ use Rattle.std.proofs.lemmas.Bool.{lt-ltb}
 use Rattle.std.specs.Prelude.{IfSome}
 use Rattle.surge_io.specs.Bytes.{IsReading}
 use Rattle.surge_top.specs.Answer.{Answer, answer, answer_to, are_words}
-use Rattle.surge_top.specs.ShortMesh.{verdict}
+use Rattle.short_case.specs.ShortMesh.{verdict}
 use Rattle.surge_top.specs.Texts.{usage_text}
 
 verdict_long : (bytes : List ℕ) (other : List ℕ) → 65_536 < length bytes → 65_536 < length other → verdict bytes ≡ verdict other

@@ -1,14 +1,3 @@
 pub mod Answer
-pub mod Entries
-pub mod LawRange
-pub mod Laws
-pub mod Named
-pub mod Outcome
-pub mod Reading
-pub mod Right
-pub mod Sets
-pub mod Short
-pub mod ShortMesh
-pub mod Sound
 pub mod Status
 pub mod Texts
