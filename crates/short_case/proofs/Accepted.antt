@@ -41,9 +41,9 @@ on_line : (es : List Entry) (k number : ℕ) → k < length es → IsTrue (break
 on_line es k number h b =
     let e : k + 1 - 1 ≡ k = omega arith in
     let front : (nat_lt 0 (k + 1) && nat_le (k + 1) (length es) && breaks (take (k + 1 - 1) es) (entry_at es (k + 1 - 1)) number) ≡ true =
-        rw (e, lt-ltb 0 (k + 1) (omega arith), le-leb (k + 1) (length es) (omega arith)) b in
+    rw (e, lt-ltb 0 (k + 1) (omega arith), le-leb (k + 1) (length es) (omega arith)) b in
     or_left (nat_lt 0 (k + 1) && nat_le (k + 1) (length es) && breaks (take (k + 1 - 1) es) (entry_at es (k + 1 - 1)) number)
-        ((length es == 0) && (k + 1 == 1) && (number == 1)) front
+    ((length es == 0) && (k + 1 == 1) && (number == 1)) front
 
 breaks_form : (before : List Entry) (e : Entry) → is_in_place before e ≡ false → IsTrue (breaks before e 90)
 unfolding breaks
@@ -90,11 +90,12 @@ right_of es k (Junction name start) h p u = tt
 right_of es k (Pipe name first last long flow) h p u =
     let front = nat_le 4 (length (take k es)) && not (list_any (is_named name) (take k es)) && not (bytes_eq first last) in
     let f : 4 ≤ length (take k es) = four (length (take k es)) (not (list_any (is_named name) (take k es)))
-        (and_left _ (not (bytes_eq first last)) (and_left front (is_divided (dt_of (take k es)) long) p)) in
-    let d : is_divided (dt_of (take k es)) long ≡ true = and_right front (is_divided (dt_of (take k es)) long) p in
-    (subst (λ dt. is_divided dt long ≡ true) (same_step es k h f) d,
-     any_all (is_node_named first) es k (known_first _ (list_any (is_node_named first) (take k es)) (list_any (is_node_named last) (take k es)) p u),
-     any_all (is_node_named last) es k (known_last _ (list_any (is_node_named first) (take k es)) (list_any (is_node_named last) (take k es)) p u))
+    (and_left _ (not (bytes_eq first last)) (and_left front (is_divided (dt_of (take k es)) long) p)) in
+    let d : is_divided (dt_of (take k es)) long ≡ true = and_right front (is_divided (dt_of (take k es)) long) p in (
+      subst (λ dt. is_divided dt long ≡ true) (same_step es k h f) d,
+      any_all (is_node_named first) es k (known_first _ (list_any (is_node_named first) (take k es)) (list_any (is_node_named last) (take k es)) p u),
+      any_all (is_node_named last) es k (known_last _ (list_any (is_node_named first) (take k es)) (list_any (is_node_named last) (take k es)) p u),
+    )
 right_of es k Other h p u = tt
 
 all_at : (P : Entry → Type 0) (es : List Entry) → ((k : ℕ) → k < length es → P (entry_at es k)) → AllByRecursion P es

@@ -91,9 +91,10 @@ pipes_sound all nodes line (Step dt ∷ es) e h r = pipes_sound all nodes (line 
 pipes_sound all nodes line (Steps count ∷ es) e h r = pipes_sound all nodes (line + 1) es e h.1 r.1
 pipes_sound all nodes line (Reservoir name head ∷ es) e h r = pipes_sound all nodes (line + 1) es e h.1 r.1
 pipes_sound all nodes line (Junction name start ∷ es) e h r = pipes_sound all nodes (line + 1) es e h.1 r.1
-pipes_sound all nodes line (PipeLine name first last long flow ∷ es) e h r =
-    ((h.0.2, divided_two (dt_of all) long r.0.0, divided_most (dt_of all) long r.0.0, rw e (node_found first 1 all r.0.1), rw e (node_found last 1 all r.0.2)),
-     pipes_sound all nodes (line + 1) es e h.1 r.1)
+pipes_sound all nodes line (PipeLine name first last long flow ∷ es) e h r = (
+  (h.0.2, divided_two (dt_of all) long r.0.0, divided_most (dt_of all) long r.0.0, rw e (node_found first 1 all r.0.1), rw e (node_found last 1 all r.0.2)),
+  pipes_sound all nodes (line + 1) es e h.1 r.1,
+)
 pipes_sound all nodes line (Other ∷ es) e h r = pipes_sound all nodes (line + 1) es e h.1 r.1
 
 -- the mesh has the pipes of the case
@@ -178,9 +179,9 @@ end_first_at case p h f =
     let k = (pipe_at case p).first in
     let e : length (map ends (range_with_len 0 (length case.nodes))) ≡ length case.nodes = length-map-range_with_len ends 0 (length case.nodes) in
     let t : list_any (is_end p false) (get_or (map ends (range_with_len 0 (length case.nodes))) k []) ≡ true =
-        rw (get_or-map-range_with_len ends 0 (length case.nodes) k k [] f (omega arith)) (first_found k p 0 case.pipes p no_pipe h (omega arith) refl) in
+    rw (get_or-map-range_with_len ends 0 (length case.nodes) k k [] f (omega arith)) (first_found k p 0 case.pipes p no_pipe h (omega arith) refl) in
     subst (λ n. position_or_len (list_any (is_end p false)) (map ends (range_with_len 0 (length case.nodes))) < n) e
-        (passes (list_any (is_end p false)) (map ends (range_with_len 0 (length case.nodes))) k [] (omega arith) t)
+    (passes (list_any (is_end p false)) (map ends (range_with_len 0 (length case.nodes))) k [] (omega arith) t)
 
 end_last_at : (case : Case) (p : ℕ) → p < length case.pipes → (pipe_at case p).last < length case.nodes → end_node (mesh_of case) p true < length case.nodes
 unfolding mesh_of
@@ -189,9 +190,9 @@ end_last_at case p h f =
     let k = (pipe_at case p).last in
     let e : length (map ends (range_with_len 0 (length case.nodes))) ≡ length case.nodes = length-map-range_with_len ends 0 (length case.nodes) in
     let t : list_any (is_end p true) (get_or (map ends (range_with_len 0 (length case.nodes))) k []) ≡ true =
-        rw (get_or-map-range_with_len ends 0 (length case.nodes) k k [] f (omega arith)) (last_found k p 0 case.pipes p no_pipe h (omega arith) refl) in
+    rw (get_or-map-range_with_len ends 0 (length case.nodes) k k [] f (omega arith)) (last_found k p 0 case.pipes p no_pipe h (omega arith) refl) in
     subst (λ n. position_or_len (list_any (is_end p true)) (map ends (range_with_len 0 (length case.nodes))) < n) e
-        (passes (list_any (is_end p true)) (map ends (range_with_len 0 (length case.nodes))) k [] (omega arith) t)
+    (passes (list_any (is_end p true)) (map ends (range_with_len 0 (length case.nodes))) k [] (omega arith) t)
 
 -- the number of ends of a node
 few_of : (ends : List End) → has_ends ends ≡ true → (1 ≤ length ends) × (length ends ≤ 8)
@@ -237,7 +238,7 @@ mesh_good es s r =
       long = λ p h. rw (reaches_of case p (omega (arith, m))) ((fit p (omega (arith, m))).1);
       small = λ p h. rw (reaches_of case p (omega (arith, m))) (let few = (fit p (omega (arith, m))).2 in omega arith);
       found = λ p last h. rw n (elim last as (λ b. end_node (mesh_of case) p b < length case.nodes)
-        [ true ↦ end_last_at case p (omega (arith, m)) ((fit p (omega (arith, m))).4) | false ↦ end_first_at case p (omega (arith, m)) ((fit p (omega (arith, m))).3) ]);
+          [ true ↦ end_last_at case p (omega (arith, m)) ((fit p (omega (arith, m))).4) | false ↦ end_first_at case p (omega (arith, m)) ((fit p (omega (arith, m))).3) ]);
     }
 
 -- the case and the mesh of a text that is accepted are what the law of a short case relies on

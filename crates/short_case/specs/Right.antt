@@ -15,4 +15,3 @@ IsRight all (Reservoir name head) = Unit {0}
 IsRight all (Junction name start) = Unit {0}
 IsRight all (Pipe name first last long flow) = (is_divided (dt_of all) long ≡ true) × (list_any (is_node_named first) all ≡ true) × (list_any (is_node_named last) all ≡ true)
 IsRight all Other = Unit {0}
-

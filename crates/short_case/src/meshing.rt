@@ -20,7 +20,12 @@ fn reach_count(dt: u64, pipe: &Pipe) -> u64
 }
 
 // The pipes in reaches and the count of places, or none where there are too many places.
-fn pipe_meshes(alloc: Global, dt: u64, first: u64, pipes: &[Pipe]) -> Result<Option<(Vec<PipeMesh>, u64)>, AllocError>
+fn pipe_meshes(
+    alloc: Global,
+    dt: u64,
+    first: u64,
+    pipes: &[Pipe],
+) -> Result<Option<(Vec<PipeMesh>, u64)>, AllocError>
     requires { first ≤ 400_000 }
     ensures { IfOk result (λ found. MatchOption found (400_000 < places_from dt first pipes.now)
         (λ m. (m.0.items ≡ pipe_meshes dt first pipes.now) × (m.1 ≡ places_from dt first pipes.now) × (m.1 ≤ 400_000))) }
