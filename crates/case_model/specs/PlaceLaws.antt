@@ -77,7 +77,7 @@ bad-at_place law s p i numbered h b =
     let count : length nodes ≡ length law.mesh.ends = length-map (states law s) is_bad_state ∙ length-states law s in
     let here : get_or all p 0 ≡ p = get_or-range_with_len 0 (length law.mesh.pipes) p 0 h ∙ zero-add p in
     let before : length (flat_map f (take p all)) ≡ places_of law.mesh p =
-        ap (λ r. length (flat_map f r)) (take-range p (length law.mesh.pipes) (omega arith)) ∙ length-pipes law s p (omega arith) in
+    ap (λ r. length (flat_map f r)) (take-range p (length law.mesh.pipes) (omega arith)) ∙ length-pipes law s p (omega arith) in
     let base : base_of law.mesh p ≡ places_before law.mesh p = numbered.bases p h in
     let inside : i < length (f (get_or all p 0)) = rw here (let l : length (f p) ≡ reaches law.mesh p + 1 = length-bad_points law s p in omega arith) in
     ap (λ k. get_or (nodes ++ flat_map f all) k false) (place_sum (base_of law.mesh p) (length law.mesh.ends) (places_of law.mesh p) (length nodes) (length (flat_map f (take p all))) i base count before)
@@ -87,13 +87,15 @@ bad-at_place law s p i numbered h b =
     ∙ get_or-map is_bad (points law s p) i Bad false (let l : length (points law s p) ≡ reaches law.mesh p + 1 = length-points law s p in omega arith)
     ∙ ap is_bad (point-at law s p i Bad b)
 
-pub length-bad_places : (law : Meaning) (s : ℕ) → IsNumbered law.mesh → length (bad_places law s) ≡ law.mesh.places
+pub length-places : (law : Meaning) (s : ℕ) → length (bad_places law s) ≡ places_before law.mesh (length law.mesh.pipes)
 unfolding bad_places
-length-bad_places law s numbered =
+length-places law s =
     let f : ℕ → List Bool = bad_points law s in
     let all : List ℕ = range_with_len 0 (length law.mesh.pipes) in
     let nodes : List Bool = map is_bad_state (states law s) in
     length-append nodes (flat_map f all)
     ∙ ap (λ k. k + length (flat_map f all)) (length-map (states law s) is_bad_state ∙ length-states law s)
     ∙ ap (λ k. length law.mesh.ends + k) (length-pipes law s (length law.mesh.pipes) (omega arith))
-    ∙ sym numbered.all
+
+pub length-bad_places : (law : Meaning) (s : ℕ) → IsNumbered law.mesh → length (bad_places law s) ≡ law.mesh.places
+length-bad_places law s numbered = length-places law s ∙ sym numbered.all

@@ -5,4 +5,5 @@ pub mod Outcome
 pub mod Sets
 pub mod Short
 pub mod ShortMesh
+pub mod Stepping
 pub mod Texts
