@@ -35,10 +35,7 @@ impl Name {
     {
         let mut padded = [0; 32];
         padded[..bytes.len()].copy_from_slice(bytes);
-        Name {
-            bytes: padded,
-            len: bytes.len() as u8,
-        }
+        Name { bytes: padded, len: bytes.len() as u8 }
     }
 
     /// The bytes of the name.

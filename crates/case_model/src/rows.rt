@@ -19,4 +19,5 @@ pub fn rows_follow_the_law()
         ((row law (s + 1)).point p i) ≡ law.inner p i ((row law s).point p (i - 1)) ((row law s).point p i) ((row law s).point p (i + 1)) }
     ensures points_in_range { (law : Meaning) → IsMeaning law → (s p : ℕ) → All IsPoint (points law s p) }
     ensures states_in_range { (law : Meaning) → IsMeaning law → (s : ℕ) → All IsState (states law s) }
-{}
+{
+}

@@ -89,7 +89,7 @@ line_entry fields =
     else if is_reservoir_line fields then reservoir_entry (field fields 1) (number_within 6 (neg_ℤ (pos 100_000_000_000)) (pos 100_000_000_000) (field fields 3))
     else if is_junction_line fields then junction_entry (field fields 1) (number_within 6 (neg_ℤ (pos 100_000_000_000)) (pos 100_000_000_000) (field fields 4))
     else if is_pipe_line fields then pipe_entry (field fields 1) (field fields 2) (field fields 3)
-    (number_within 3 (pos 1) (pos 1_000_000_000) (field fields 4)) (number_within 9 (neg_ℤ (pos 1_000_000_000_000)) (pos 1_000_000_000_000) (field fields 8))
+        (number_within 3 (pos 1) (pos 1_000_000_000) (field fields 4)) (number_within 9 (neg_ℤ (pos 1_000_000_000_000)) (pos 1_000_000_000_000) (field fields 8))
     else Other
 
 -- what the last line says where it has no line end
