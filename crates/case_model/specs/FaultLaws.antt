@@ -1,7 +1,7 @@
-use Rattle.std.specs.Prelude.{◌≡◌, ℕ, zero, suc, ◌+◌, ◌<◌, ◌≤◌, ◌⊎◌, Bool, true, false, cond, ltb, List, length, get_or, Option, Some, None, position, refl}
+use Rattle.std.specs.Prelude.{◌≡◌, ℕ, zero, suc, ◌<◌, ◌≤◌, ◌⊎◌, Bool, true, false, cond, ltb, List, length, get_or, Option, Some, None, position, refl}
 use Rattle.std.specs.List.{position_or_len}
 use Rattle.std.specs.Option.{option_map}
-use Rattle.std.proofs.Common.{inl, inr, subst, sym, ap, arith, ◌∙◌}
+use Rattle.std.proofs.Common.{inl, inr, subst, sym, arith, ◌∙◌}
 use Rattle.std.proofs.lemmas.Bool.{false≢true, ltb-true, ltb-false}
 use Rattle.std.proofs.lemmas.Bool.Decides.{leb_tells}
 use Rattle.std.proofs.lemmas.List.{get_or_past}
@@ -38,8 +38,8 @@ position-tells : (bs : List Bool) → TellsFirst bs (position (λ b. b) bs)
 position-tells bs =
     let n : ℕ = position_or_len (λ b. b) bs in
     by_test (ltb n (length bs)) n bs
-        (λ e. (passes_at_first (λ b. b) bs false (ltb-true n (length bs) e), first_le bs))
-        (λ e k t. not_before bs k t (let in' : k < length bs = within_list bs k t in let past : length bs ≤ n = ltb-false n (length bs) e in omega arith))
+    (λ e. (passes_at_first (λ b. b) bs false (ltb-true n (length bs) e), first_le bs))
+    (λ e k t. not_before bs k t (let in' : k < length bs = within_list bs k t in let past : length bs ≤ n = ltb-false n (length bs) e in omega arith))
 
 -- ---- the first fault of one row
 
@@ -86,13 +86,17 @@ later law last None (Some fault) h i = record {
   within = let e : fault.0 ≡ suc last = i.0 in omega arith;
   bad = bad_there law (suc last) fault.0 fault.1 (sym i.0) i.1;
   least = λ s k le bad.
-      elim (leb_tells s last) [ inl t ↦ absurd (h s k t.1 bad)
-      | inr t ↦ let l : last < s = t.1 in let e : s ≡ suc last = omega arith in inr (i.0 ∙ sym e, i.2 k (bad_there law s (suc last) k e bad)) ];
+      elim (leb_tells s last) [
+        | inl t ↦ absurd (h s k t.1 bad)
+        | inr t ↦ let l : last < s = t.1 in let e : s ≡ suc last = omega arith in inr (i.0 ∙ sym e, i.2 k (bad_there law s (suc last) k e bad))
+      ];
 }
 later law last None None h i =
     λ s k le bad.
-        elim (leb_tells s last) [ inl t ↦ h s k t.1 bad
-        | inr t ↦ let l : last < s = t.1 in i k (bad_there law s (suc last) k (omega arith) bad) ]
+    elim (leb_tells s last) [
+      | inl t ↦ h s k t.1 bad
+      | inr t ↦ let l : last < s = t.1 in i k (bad_there law s (suc last) k (omega arith) bad)
+    ]
 
 pub first_fault-tells : (law : Meaning) (last : ℕ) → Tells law last (first_fault law last)
 unfolding first_fault

@@ -8,5 +8,8 @@ pub mod Padding
 pub mod PlaceLaws
 pub mod Places
 pub mod Range
+pub mod RangeLaws
 pub mod RowLaws
 pub mod Rows
+pub mod WordLaws
+pub mod Words

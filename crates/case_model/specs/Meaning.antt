@@ -14,11 +14,11 @@ pub record Meaning : Type 0 where
   pub node : ℕ → ℕ → NodeState → List Point → NodeState
   -- of the same, the points of the node's ends
   pub ends : ℕ → ℕ → NodeState → List Point → List Point
-  -- row 0
+  -- what stands at the start, at step 0: pipe, place; node
   pub start_point : ℕ → ℕ → Point
   pub start_node : ℕ → NodeState
 
--- from what is in range the law makes only what is in range
+-- the start is in range, and of what is in range the law makes only what is in range
 pub record IsMeaning (law : Meaning) : Type 0 where
   pub inner : (p i : ℕ) (left own right : Point) → IsPoint left → IsPoint own → IsPoint right → IsPoint (law.inner p i left own right)
   pub node : (k s : ℕ) (own : NodeState) (near : List Point) → IsState own → All IsPoint near → IsState (law.node k s own near)

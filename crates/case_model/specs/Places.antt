@@ -7,10 +7,12 @@ use Rattle.case_model.specs.declared.states.NodeState.TheVariants.{Good as GoodS
 use Rattle.case_model.specs.Meaning.{Meaning}
 use Rattle.case_model.specs.Rows.{points, states}
 
+-- whether a point is Bad
 abbrev pub is_bad : Point → Bool
 is_bad (Good h qu qd v) = false
 is_bad Bad = true
 
+-- whether a node's state is Bad
 abbrev pub is_bad_state : NodeState → Bool
 is_bad_state (GoodState h v g) = false
 is_bad_state BadState = true

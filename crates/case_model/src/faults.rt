@@ -10,5 +10,4 @@ pub fn first_fault_is_least()
     ensures only { (law : Meaning) (last step place : ℕ) → IsFirstFault law last step place → first_fault law last ≡ Some (step, place) }
     ensures none { (law : Meaning) (last : ℕ) → first_fault law last ≡ None → (s k : ℕ) → s ≤ last → IsBadAt law s k → ⊥ }
     ensures some { (law : Meaning) (last : ℕ) → ((s k : ℕ) → s ≤ last → IsBadAt law s k → ⊥) → first_fault law last ≡ None }
-{
-}
+{}

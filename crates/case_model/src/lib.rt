@@ -13,6 +13,7 @@ mod points;
 mod ranges;
 mod rows;
 mod states;
+mod words;
 
 pub use cases::{Case, Node, NodeKind, Pipe, Probe, ProbeAt, Table, TableKind, Value};
 pub use faults::first_fault_is_least;
@@ -22,6 +23,10 @@ pub use meshes::{Arrival, CavityRule, End, Mesh, PipeMesh, Through};
 pub use names::Name;
 pub use places::places_are_numbered;
 pub use points::Point;
-pub use ranges::{point_of, state_of};
+pub use ranges::{good_is_in_range, point_of, state_of};
 pub use rows::rows_follow_the_law;
 pub use states::NodeState;
+pub use words::{from_words, to_words, words_tell_the_point};
+
+#[cfg(test)]
+mod tests;

@@ -35,12 +35,16 @@ impl Name {
     {
         let mut padded = [0; 32];
         padded[..bytes.len()].copy_from_slice(bytes);
-        Name { bytes: padded, len: bytes.len() as u8 }
+        Name {
+            bytes: padded,
+            len: bytes.len() as u8,
+        }
     }
 
     /// The bytes of the name.
     pub fn as_bytes(&self) -> &[u8]
-        ensures { result.now ≡ self.now }
+        ensures bytes { result.now ≡ self.now }
+        ensures few { length result.now ≤ 32 }
     {
         &self.bytes[..self.len as usize]
     }

@@ -14,5 +14,4 @@ pub fn places_are_numbered()
         slice_index_or (bad_places law s) (base_of law.mesh p + i) false ≡ is_bad ((row law s).point p i) }
     ensures all { (law : Meaning) (s : ℕ) → IsNumbered law.mesh →
         length (bad_places law s) ≡ law.mesh.places }
-{
-}
+{}

@@ -1,5 +1,7 @@
-ghost use Rattle.std.specs.Prelude.{◌≡◌};
-ghost use Rattle.case_model.specs.Range.{IsPoint, IsState, point_of as point_from, state_of as state_from};
+ghost use Rattle.std.specs.Prelude.{◌≡◌, ℤ};
+ghost use Rattle.case_model.specs.declared.points.Point.TheVariants.{Good as GoodPoint, Bad as BadPoint};
+ghost use Rattle.case_model.specs.declared.states.NodeState.TheVariants.{Good as GoodState, Bad as BadState};
+ghost use Rattle.case_model.specs.Range.{InRange, InStateRange, IsPoint, IsState, point_of as point_from, state_of as state_from};
 
 use crate::{NodeState, Point};
 
@@ -33,8 +35,8 @@ pub fn state_of(h: i128, v: i128, g: i128) -> NodeState
     ensures value { result ≡ state_from h v g }
     ensures range { IsState result }
 {
-    if h.unsigned_abs() <= 100_000_000_000
-        && v >= 0
+    if v >= 0
+        && h.unsigned_abs() <= 100_000_000_000
         && v.unsigned_abs() <= 1_000_000_000_000_000
         && g.unsigned_abs() <= 10_000_000_000_000_000
     {
@@ -46,3 +48,12 @@ pub fn state_of(h: i128, v: i128, g: i128) -> NodeState
     }
     NodeState::Bad
 }
+
+/// The law of the range rule: a point or a state of numbers is Good exactly where they are in
+/// range, and has these numbers.
+pub fn good_is_in_range()
+    ensures point { (h qu qd v : ℤ) → InRange h qu qd v → point_from h qu qd v ≡ GoodPoint h qu qd v }
+    ensures no_point { (h qu qd v : ℤ) → (InRange h qu qd v → ⊥) → point_from h qu qd v ≡ BadPoint }
+    ensures state { (h v g : ℤ) → InStateRange h v g → state_from h v g ≡ GoodState h v g }
+    ensures no_state { (h v g : ℤ) → (InStateRange h v g → ⊥) → state_from h v g ≡ BadState }
+{}

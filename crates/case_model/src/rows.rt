@@ -4,7 +4,7 @@ ghost use Rattle.case_model.specs.Mesh.{reaches};
 ghost use Rattle.case_model.specs.Range.{IsPoint, IsState};
 ghost use Rattle.case_model.specs.Rows.{near, end_point, row, points, states};
 
-/// The laws of the mesh row by row: row 0 is the law's start, each later row is made of the one
+/// The laws of the mesh row by row: the first is the law's start, each later one is made of the one
 /// before alone, and over a law in range all is in range.
 pub fn rows_follow_the_law()
     ensures start_state { (law : Meaning) (k : ℕ) → (row law 0).state k ≡ law.start_node k }
@@ -19,5 +19,4 @@ pub fn rows_follow_the_law()
         ((row law (s + 1)).point p i) ≡ law.inner p i ((row law s).point p (i - 1)) ((row law s).point p i) ((row law s).point p (i + 1)) }
     ensures points_in_range { (law : Meaning) → IsMeaning law → (s p : ℕ) → All IsPoint (points law s p) }
     ensures states_in_range { (law : Meaning) → IsMeaning law → (s : ℕ) → All IsState (states law s) }
-{
-}
+{}

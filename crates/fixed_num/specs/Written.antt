@@ -1,11 +1,12 @@
 use Rattle.std.specs.Prelude.{take, drop, length, ℕ, zero, suc, ◌+◌, ◌/◌, ◌%◌, ◌^◌, List, [], ◌∷◌, ◌++◌, ℤ, pos, negsuc, unsigned_abs}
 use Rattle.std.specs.Fmt.{decimal}
 
--- so many digits at the end of a number
+-- the last k digits of a number
 abbrev pub last_digits : ℕ → ℕ → List ℕ
 last_digits zero n = []
 last_digits (suc k) n = (48 + n / 10 ^ k % 10) ∷ last_digits k n
 
+-- what stands before the size
 abbrev pub sign : ℤ → List ℕ
 sign (pos n) = []
 sign (negsuc n) = 45 ∷ []

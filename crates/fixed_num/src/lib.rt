@@ -9,3 +9,6 @@ mod written;
 pub use decimal::{NumberFault, read_decimal};
 pub use rounding::rnd;
 pub use written::write_decimal;
+
+#[cfg(test)]
+mod tests;

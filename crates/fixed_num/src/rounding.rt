@@ -25,6 +25,7 @@ fn quotient(n: i128, d: i128) -> i128
     if n < 0 { -size } else { size }
 }
 
+// Takes the fast path where both operands fit 64 bits.
 fn half_up_any(n: u128, d: u128) -> u128
     requires { 0 < d }
     ensures { result ≡ half_up n d }
@@ -56,7 +57,7 @@ fn half_up_u128(n: u128, d: u128) -> u128
 {
     let quotient = n / d;
     let rest = n % d;
-    if rest >= d - rest {
+    if d - rest <= rest {
         quotient + 1
     } else {
         quotient

@@ -3,7 +3,8 @@ ghost use Rattle.std.specs.Fmt.{decimal};
 ghost use Rattle.fixed_num.specs.Written.{last_digits, written, placed, sign, fraction_text};
 ghost use Rattle.fixed_num.specs.Decimal.{number_of};
 
-/// Writes a number in the unit 10 ^ -places, and answers the length.
+/// Writes a number in the unit 10^-places, with just so many digits after the point and no needless
+/// zero before it, and answers the length. What stands behind the text stays.
 pub fn write_decimal(value: i128, places: u32, into: &mut [u8; 48]) -> usize
     requires size { unsigned_abs value ≤ 1_000_000_000_000_000_000_000_000_000 }
     requires places { places ≤ 12 }
@@ -15,7 +16,7 @@ pub fn write_decimal(value: i128, places: u32, into: &mut [u8; 48]) -> usize
     put_number(value, places, into)
 }
 
-// Writes so many digits of a number's end.
+// Writes the last `count` digits of a number.
 fn put_last(n: u128, count: usize, into: &mut [u8], at: usize)
     requires { at + count ≤ length into.old }
     ensures { into.new ≡ take at into.old ++ last_digits count n ++ drop (at + count) into.old }

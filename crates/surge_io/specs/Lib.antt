@@ -1,4 +1,6 @@
+pub mod ByteLaws
 pub mod Bytes
 pub mod Faults
 pub mod Memory
+pub mod Pages
 pub mod Streams

@@ -4,16 +4,23 @@
 //! and a stream tells nothing but its count of faults.
 #![tactic(auto)]
 
+mod line;
 mod memory;
+mod page;
 mod reading;
 mod sinks;
 mod sources;
 mod stream;
 mod writing;
 
+pub use line::Line;
 pub use memory::{MemorySink, MemorySource, SteadySource};
+pub use page::Page;
 pub use reading::{ReadFault, whole};
 pub use sinks::Sink;
 pub use sources::{Failed, Source};
 pub use stream::{StreamSink, StreamSource};
 pub use writing::put;
+
+#[cfg(test)]
+mod tests;

@@ -70,9 +70,9 @@ impl Source for MemorySource {
             self.faults = self.faults.saturating_add(1);
             return Err(Failed);
         }
-        let count = give(&self.bytes[self.at..], self.piece, into);
-        self.at += count;
-        Ok(count)
+        let given = give(&self.bytes[self.at..], self.piece, into);
+        self.at += given;
+        Ok(given)
     }
 }
 
@@ -108,9 +108,6 @@ impl Source for SteadySource {
     fn read(&mut self, into: &mut [u8]) -> Result<usize, Failed>
         ensures count { IfOk result (λ n. n ≤ length into.old) }
         ensures bytes { IfOk result (λ n. Takes n into.new (Some self.new) self.old) }
-        ensures unchanged { OnErr result (self.new ≡ self.old) }
-        ensures cause { OnErr result (Rose 0 0) }
-        ensures later { 0 ≤ 0 }
 
         // Beyond every source: no call fails, and each gives as many bytes as fit.
         ensures succeeds { IsOk result }
@@ -189,12 +186,12 @@ impl Sink for MemorySink {
             self.faults = self.faults.saturating_add(1);
             return Err(Failed);
         }
-        let count = bytes.len().min(self.room - self.bytes.len());
-        append(&mut self.bytes, &bytes[..count]);
-        if count == 0 && !bytes.is_empty() {
+        let taken = bytes.len().min(self.room - self.bytes.len());
+        append(&mut self.bytes, &bytes[..taken]);
+        if taken == 0 && !bytes.is_empty() {
             self.faults = self.faults.saturating_add(1);
         }
-        Ok(count)
+        Ok(taken)
     }
 }
 

@@ -40,7 +40,7 @@ impl<R: Read> Source for StreamSource<R> {
         ensures counted { read_faults self.new ≡ faults_after_read result (read_faults self.old) }
     {
         match self.reader.read(into) {
-            Ok(count) => Ok(count),
+            Ok(given) => Ok(given),
             Err(_) => {
                 self.faults = self.faults.saturating_add(1);
                 Err(Failed)
@@ -86,7 +86,7 @@ impl<W: Write> Sink for StreamSink<W> {
                 self.faults = self.faults.saturating_add(1);
                 Ok(0)
             }
-            Ok(count) => Ok(count),
+            Ok(taken) => Ok(taken),
             Err(_) => {
                 self.faults = self.faults.saturating_add(1);
                 Err(Failed)

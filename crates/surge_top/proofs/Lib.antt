@@ -1,3 +1,1 @@
-pub mod Filling
-pub mod Marks
-pub mod Stepped
+pub mod Answering

@@ -1,9 +1,3 @@
 pub mod Answer
-pub mod Entries
-pub mod Laws
-pub mod Outcome
-pub mod Sets
-pub mod Short
-pub mod ShortMesh
-pub mod Stepping
+pub mod Status
 pub mod Texts

@@ -9,7 +9,7 @@ use Rattle.case_model.specs.declared.states.NodeState.TheVariants.{Good as GoodS
 use Rattle.case_model.specs.declared.cases.Case.{Case}
 use Rattle.case_model.specs.declared.meshes.Mesh.{Mesh}
 use Rattle.case_model.specs.declared.meshes.PipeMesh.{PipeMesh}
-use Rattle.surge_top.specs.Laws.{node_at, pipe_at}
+use Rattle.short_law.specs.Laws.{node_at, pipe_at}
 
 -- a line of fields
 abbrev pub line_of : List (List ℕ) → List ℕ

@@ -1,5 +1,6 @@
 //! The top call of `surge`.
 #![tactic(auto)]
 
-mod entry;
-mod rows;
+mod status;
+
+pub use status::Status;

@@ -1,0 +1,5 @@
+use Rattle.case_model.specs.WordLaws.{words_of-same}
+use Rattle.case_model.proofs.words.words_tell_the_point.Goals as goal
+
+pub returns : goal.returns
+returns c = words_of-same

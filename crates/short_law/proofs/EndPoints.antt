@@ -1,0 +1,30 @@
+-- The points of a node's ends, one by one.
+use Rattle.std.proofs.Common.{◌≡◌, ℕ, zero, suc, ◌<◌, List, [], ◌∷◌, length, get_or, ℤ, pos, refl, ap, arith}
+use Rattle.case_model.specs.declared.meshes.End.{End}
+use Rattle.case_model.specs.declared.points.Point.{Point}
+use Rattle.case_model.specs.declared.points.Point.TheVariants.{Bad}
+use Rattle.case_model.specs.declared.states.NodeState.{NodeState}
+use Rattle.case_model.specs.declared.states.NodeState.TheVariants.{Good as GoodState, Bad as BadState}
+use Rattle.short_law.specs.Laws.{end_point, end_points}
+use Rattle.short_law.proofs.Gathered.{no_end, no_point}
+
+-- the first points are those of the first ends
+abbrev pub PointedTo : NodeState → List End → List ℤ → List Point → ℕ → Type 0
+PointedTo state ends flows points i =
+    (k : ℕ) → k < i → get_or points k no_point ≡ end_point state (get_or ends k no_end) (get_or flows k (pos 0))
+
+pub points-all : (state : NodeState) (ends : List End) (flows : List ℤ) (points : List Point) → length flows ≡ length ends → length points ≡ length ends → PointedTo state ends flows points (length ends) → points ≡ end_points state ends flows
+points-all state [] flows [] l m h = refl
+points-all state [] flows (p ∷ points) l m h = absurd (omega arith)
+points-all state (e ∷ ends) [] points l m h = absurd (omega arith)
+points-all state (e ∷ ends) (q ∷ flows) [] l m h = absurd (omega arith)
+points-all state (e ∷ ends) (q ∷ flows) (p ∷ points) l m h =
+    rw (h 0 (omega arith), points-all state ends flows points (omega arith) (omega arith) (λ k below. h (suc k) (omega arith))) refl
+
+-- the ends of a Bad node have no flows
+pub bad_points : (ends : List End) (f g : List ℤ) → end_points BadState ends f ≡ end_points BadState ends g
+bad_points [] f g = refl
+bad_points (e ∷ ends) [] [] = refl
+bad_points (e ∷ ends) [] (q ∷ g) = ap (λ ps. Bad ∷ ps) (bad_points ends [] g)
+bad_points (e ∷ ends) (q ∷ f) [] = ap (λ ps. Bad ∷ ps) (bad_points ends f [])
+bad_points (e ∷ ends) (q ∷ f) (r ∷ g) = ap (λ ps. Bad ∷ ps) (bad_points ends f g)

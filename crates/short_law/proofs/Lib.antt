@@ -1,0 +1,4 @@
+pub mod EndPoints
+pub mod Gathered
+pub mod Quotients
+pub mod Sums

@@ -1,0 +1,2 @@
+pub mod LawRange
+pub mod Laws

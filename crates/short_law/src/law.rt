@@ -1,0 +1,61 @@
+ghost use Rattle.std.specs.Prelude.{◌≡◌};
+ghost use Rattle.short_law.specs.Laws.{IsComputable, meaning_of};
+ghost use Rattle.short_law.specs.LawRange.{meaning_of-good};
+ghost use Rattle.std.proofs.Props.{props};
+
+use crate::arrivals::impedance;
+use crate::characteristics::inner_point;
+use crate::node_laws::law_node;
+use crate::starts::{start_node, start_point};
+use case_model::{Arrival, Case, Law, Mesh, NodeState, Point};
+
+/// The hydraulics of a short case over its mesh.
+#[derive(Clone, Copy)]
+pub struct ShortLaw<'a> {
+    case: &'a Case,
+    mesh: &'a Mesh,
+    ghost fit: { IsComputable case.now mesh.now } by { Prim.hlevel props },
+}
+
+impl<'a> ShortLaw<'a> {
+    /// The law of a case over a mesh that fits it.
+    pub fn over(case: &'a Case, mesh: &'a Mesh) -> ShortLaw<'a>
+        requires { IsComputable case.now mesh.now }
+        ensures { ⟦<ShortLaw<'a> as Law>⟧.meaning result ≡ meaning_of case.now mesh.now }
+    {
+        ShortLaw { case, mesh }
+    }
+}
+
+impl<'a> Law for ShortLaw<'a> {
+    ghost meaning = { λ s. meaning_of s.case.now s.mesh.now };
+
+    #[tactic(auto, unfolding(crate::specs::Laws::meaning_of))]
+    fn inner(&self, pipe: u32, _place: u32, left: &Point, own: &Point, right: &Point) -> Point {
+        inner_point(impedance(self.mesh, pipe), left, own, right)
+    }
+
+    #[tactic(auto, unfolding(crate::specs::Laws::meaning_of))]
+    fn node(
+        &self,
+        node: u32,
+        _step: u64,
+        own: &NodeState,
+        near: &[Point],
+        ends: &mut [Point],
+    ) -> NodeState {
+        law_node(self.case, self.mesh, node, own, near, ends)
+    }
+
+    #[tactic(auto, unfolding(crate::specs::Laws::meaning_of))]
+    fn start_point(&self, pipe: u32, place: u32) -> Point {
+        start_point(self.case, self.mesh, pipe, place)
+    }
+
+    #[tactic(auto, unfolding(crate::specs::Laws::meaning_of))]
+    fn start_node(&self, node: u32) -> NodeState {
+        start_node(self.case, node)
+    }
+
+    ghost in_range = { λ s. meaning_of-good s.case.now s.mesh.now };
+}
