@@ -87,13 +87,15 @@ bad-at_place law s p i numbered h b =
     ∙ get_or-map is_bad (points law s p) i Bad false (let l : length (points law s p) ≡ reaches law.mesh p + 1 = length-points law s p in omega arith)
     ∙ ap is_bad (point-at law s p i Bad b)
 
-pub length-bad_places : (law : Meaning) (s : ℕ) → IsNumbered law.mesh → length (bad_places law s) ≡ law.mesh.places
+pub length-places : (law : Meaning) (s : ℕ) → length (bad_places law s) ≡ places_before law.mesh (length law.mesh.pipes)
 unfolding bad_places
-length-bad_places law s numbered =
+length-places law s =
     let f : ℕ → List Bool = bad_points law s in
     let all : List ℕ = range_with_len 0 (length law.mesh.pipes) in
     let nodes : List Bool = map is_bad_state (states law s) in
     length-append nodes (flat_map f all)
     ∙ ap (λ k. k + length (flat_map f all)) (length-map (states law s) is_bad_state ∙ length-states law s)
     ∙ ap (λ k. length law.mesh.ends + k) (length-pipes law s (length law.mesh.pipes) (omega arith))
-    ∙ sym numbered.all
+
+pub length-bad_places : (law : Meaning) (s : ℕ) → IsNumbered law.mesh → length (bad_places law s) ≡ law.mesh.places
+length-bad_places law s numbered = length-places law s ∙ sym numbered.all

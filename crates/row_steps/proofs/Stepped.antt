@@ -1,0 +1,217 @@
+-- Lists that are kept in memory, and the rows that they hold.
+use Rattle.std.specs.Prelude.{◌≡◌, ℕ, zero, suc, ◌+◌, ◌-◌, ◌<◌, ◌≤◌, Bool, true, false, cond, List, [], ◌∷◌, ◌++◌, length, map, take, drop, replicate, get_or, set, refl, Option, Some, None, position}
+use Rattle.std.specs.List.{All, AllByRecursion, flat_map, list_any, range_with_len}
+use Rattle.std.specs.Option.{option_map}
+use Rattle.std.proofs.Common.{inl, inr, ◌∙◌, ap, sym, subst, arith, add-one}
+use Rattle.std.proofs.lemmas.List.{length-replicate, length-set, get_or-set_same, get_or-set_other}
+use Rattle.std.proofs.lemmas.Bool.Decides.{eqb_tells, leb_tells}
+use Rattle.std.proofs.lemmas.List.FromFn.{get_or-map-range_with_len, length-map-range_with_len}
+use Rattle.std.proofs.lemmas.List.Folds.{flat_map-map}
+use Rattle.case_model.specs.declared.meshes.End.{End}
+use Rattle.case_model.specs.declared.meshes.Mesh.{Mesh}
+use Rattle.case_model.specs.declared.points.Point.{Point}
+use Rattle.case_model.specs.declared.points.Point.TheVariants.{Bad}
+use Rattle.case_model.specs.declared.states.NodeState.{NodeState}
+use Rattle.case_model.specs.FirstFault.{row_fault, earlier_or, first_fault}
+use Rattle.case_model.specs.Meaning.{Meaning, IsMeaning}
+use Rattle.case_model.specs.Mesh.{IsMesh, places_before, reaches, ends_of, next_to, end_node, end_index}
+use Rattle.case_model.specs.Places.{is_bad, is_bad_state, bad_places}
+use Rattle.case_model.specs.Range.{IsPoint, IsState}
+use Rattle.case_model.specs.PlaceLaws.{length-places}
+use Rattle.case_model.specs.RowLaws.{length-states, row-good, near-good, state-next, point-inside, pipe-at, point-at, length-points, end-is, length-all_points, length-all_ends}
+use Rattle.case_model.specs.Rows.{row, near, node_ends, end_point, points, states, all_points, all_ends}
+use Rattle.row_steps.specs.declared.joints.PipeJoints.{PipeJoints}
+use Rattle.row_steps.proofs.Filling.{all-written}
+use Rattle.row_steps.specs.Stepping.{joints_of, all_joints, beside, HasPlaces, HasEnds, bad_marks}
+
+-- ---- the points beside a node
+
+at_place : (law : Meaning) (s p : ℕ) (line : List Point) (at_last : Bool) → line ≡ points law s p → 2 ≤ reaches law.mesh p → get_or line (cond at_last (length line - 2) 1) Bad ≡ ((row law s).point p (cond at_last (reaches law.mesh p - 1) 1))
+at_place law s p line true e long =
+    let l : length line ≡ reaches law.mesh p + 1 = ap length e ∙ length-points law s p in
+    let i : length line - 2 ≡ reaches law.mesh p - 1 = omega arith in
+    ap (λ k. get_or line k Bad) i ∙ ap (λ ys. get_or ys (reaches law.mesh p - 1) Bad) e ∙ point-at law s p (reaches law.mesh p - 1) Bad (omega arith)
+at_place law s p line false e long = ap (λ ys. get_or ys 1 Bad) e ∙ point-at law s p 1 Bad (omega arith)
+
+beside-at : (law : Meaning) (s : ℕ) (lines : List (List Point)) (e : End) → lines ≡ all_points law s → IsMesh law.mesh → e.pipe < length law.mesh.pipes → beside lines e ≡ ((row law s).point e.pipe (next_to law.mesh e))
+beside-at law s lines e h good b =
+    at_place law s e.pipe (get_or lines e.pipe []) e.at_last (ap (λ ys. get_or ys e.pipe []) h ∙ pipe-at law s e.pipe [] b) (good.long e.pipe b)
+
+same-map : {X Y : Type 0} (P : X → Type 0) (f g : X → Y) → ((x : X) → P x → f x ≡ g x) → (xs : List X) → AllByRecursion P xs → map f xs ≡ map g xs
+same-map P f g h [] all = refl
+same-map P f g h (x ∷ xs) all = let here : f x ≡ g x = h x all.0 in let rest : map f xs ≡ map g xs = same-map P f g h xs all.1 in cc
+
+pub near-is : (law : Meaning) (s k : ℕ) (lines : List (List Point)) → lines ≡ all_points law s → IsMesh law.mesh → k < length law.mesh.ends → map (beside lines) (ends_of law.mesh k) ≡ near law.mesh (row law s) k
+unfolding near
+near-is law s k lines h good b =
+    same-map (λ (e : End). e.pipe < length law.mesh.pipes) (beside lines) (λ (e : End). ((row law s).point e.pipe (next_to law.mesh e))) (λ e. beside-at law s lines e h good) (ends_of law.mesh k) (good.pipes k b)
+
+pub gathered : (law : Meaning) (s k : ℕ) (lines : List (List Point)) (ends : List End) (xs : List Point) → lines ≡ all_points law s → IsMesh law.mesh → k < length law.mesh.ends → ends ≡ ends_of law.mesh k → xs ≡ map (beside lines) ends → xs ≡ near law.mesh (row law s) k
+gathered law s k lines ends xs h good b e x = x ∙ ap (map (beside lines)) e ∙ near-is law s k lines h good b
+
+pub ends-within : (law : Meaning) (s k : ℕ) (lines : List (List Point)) (ends : List End) → lines ≡ all_points law s → IsMesh law.mesh → k < length law.mesh.ends → ends ≡ ends_of law.mesh k → AllByRecursion (λ e. e.pipe < length lines) ends
+ends-within law s k lines ends h good b e =
+    subst (λ (es : List End). AllByRecursion (λ (x : End). x.pipe < length lines) es) (sym e)
+    (subst (λ n. AllByRecursion (λ (x : End). x.pipe < n) (ends_of law.mesh k)) (sym (ap length h ∙ length-all_points law s)) (good.pipes k b))
+
+-- ---- what a law makes of a row in range
+
+pub state-in : (law : Meaning) (s k : ℕ) (x : NodeState) → IsMeaning law → x ≡ (row law s).state k → IsState x
+state-in law s k x m e = subst IsState (sym e) ((row-good law m s).states k)
+
+pub point-in : (law : Meaning) (s p i : ℕ) (x : Point) → IsMeaning law → x ≡ ((row law s).point p i) → IsPoint x
+point-in law s p i x m e = subst IsPoint (sym e) ((row-good law m s).points p i)
+
+pub near-in : (law : Meaning) (s k : ℕ) (xs : List Point) → IsMeaning law → xs ≡ near law.mesh (row law s) k → All IsPoint xs
+near-in law s k xs m e = subst (All IsPoint) (sym e) (near-good law.mesh (row law s) k (row-good law m s))
+
+pub state-made : (law : Meaning) (s k : ℕ) (own x : NodeState) (xs : List Point) → own ≡ (row law s).state k → xs ≡ near law.mesh (row law s) k → x ≡ law.node k (s + 1) own xs → x ≡ (row law (s + 1)).state k
+state-made law s k own x xs o n e = e ∙ ap (λ y. law.node k (s + 1) y xs) o ∙ ap (law.node k (s + 1) ((row law s).state k)) n ∙ sym (state-next law s k)
+
+pub ends-made : (law : Meaning) (s k : ℕ) (own : NodeState) (xs ys : List Point) → own ≡ (row law s).state k → xs ≡ near law.mesh (row law s) k → ys ≡ law.ends k (s + 1) own xs → ys ≡ node_ends law (s + 1) (row law s) k
+unfolding node_ends
+ends-made law s k own xs ys o n e = e ∙ ap (λ y. law.ends k (s + 1) y xs) o ∙ ap (law.ends k (s + 1) ((row law s).state k)) n
+
+-- ---- the points of a pipe
+
+pub old-at : (law : Meaning) (s p i : ℕ) (old : List Point) (d : Point) → old ≡ points law s p → i ≤ reaches law.mesh p → get_or old i d ≡ ((row law s).point p i)
+old-at law s p i old d e h = ap (λ ys. get_or ys i d) e ∙ point-at law s p i d h
+
+pub old-in : (law : Meaning) (s p i : ℕ) (old : List Point) (d : Point) → IsMeaning law → old ≡ points law s p → i ≤ reaches law.mesh p → IsPoint (get_or old i d)
+old-in law s p i old d m e h = point-in law s p i (get_or old i d) m (old-at law s p i old d e h)
+
+pub inner-made : (law : Meaning) (s p i : ℕ) (old : List Point) (d x : Point) → old ≡ points law s p → 0 < i → i < reaches law.mesh p → x ≡ law.inner p i (get_or old (i - 1) d) (get_or old i d) (get_or old (i + 1) d) → x ≡ ((row law (s + 1)).point p i)
+inner-made law s p i old d x e h b f =
+    f ∙ ap (λ l. law.inner p i l (get_or old i d) (get_or old (i + 1) d)) (old-at law s p (i - 1) old d e (omega arith))
+    ∙ ap (λ o. law.inner p i ((row law s).point p (i - 1)) o (get_or old (i + 1) d)) (old-at law s p i old d e (omega arith))
+    ∙ ap (law.inner p i ((row law s).point p (i - 1)) ((row law s).point p i)) (old-at law s p (i + 1) old d e (omega arith))
+    ∙ sym (point-inside law s p i h b)
+
+-- ---- both ends of each pipe
+
+pub length-joints : (mesh : Mesh) → length (all_joints mesh) ≡ length mesh.pipes
+unfolding all_joints
+length-joints mesh = length-map-range_with_len (joints_of mesh) 0 (length mesh.pipes)
+
+pub joints-at : (mesh : Mesh) (p : ℕ) (d : PipeJoints) → p < length mesh.pipes → get_or (all_joints mesh) p d ≡ joints_of mesh p
+unfolding all_joints
+joints-at mesh p d h = get_or-map-range_with_len (joints_of mesh) 0 (length mesh.pipes) p p d h (omega arith)
+
+pub given-at : (law : Meaning) (s p : ℕ) (last : Bool) (given : List (List Point)) → given ≡ all_ends law s → IsMesh law.mesh → p < length law.mesh.pipes → get_or (get_or given (end_node law.mesh p last) []) (end_index law.mesh p last) Bad ≡ end_point law (s + 1) (row law s) p last
+unfolding end_point
+given-at law s p last given h good b =
+    ap (λ ys. get_or (get_or ys (end_node law.mesh p last) []) (end_index law.mesh p last) Bad) h
+    ∙ ap (λ ys. get_or ys (end_index law.mesh p last) Bad) (end-is law s (end_node law.mesh p last) [] (good.found p last b))
+
+pub joint-in : (law : Meaning) (s p : ℕ) (joints : List PipeJoints) (given : List (List Point)) (d : PipeJoints) → joints ≡ all_joints law.mesh → given ≡ all_ends law s → IsMesh law.mesh → p < length law.mesh.pipes → ((get_or joints p d).first.node < length given) × ((get_or joints p d).last.node < length given)
+joint-in law s p joints given d j h good b =
+    let at : get_or joints p d ≡ joints_of law.mesh p = ap (λ js. get_or js p d) j ∙ joints-at law.mesh p d b in
+    let count : length given ≡ length law.mesh.ends = ap length h ∙ length-all_ends law s in
+    let one : (get_or joints p d).first.node ≡ end_node law.mesh p false = ap (λ (x : PipeJoints). x.first.node) at in
+    let two : (get_or joints p d).last.node ≡ end_node law.mesh p true = ap (λ (x : PipeJoints). x.last.node) at in
+    let f : end_node law.mesh p false < length law.mesh.ends = good.found p false b in
+    let l : end_node law.mesh p true < length law.mesh.ends = good.found p true b in
+    (rw (one, count) f, rw (two, count) l)
+
+pub first-given : (law : Meaning) (s p : ℕ) (joints : List PipeJoints) (given : List (List Point)) (d : PipeJoints) (x : Point) → joints ≡ all_joints law.mesh → given ≡ all_ends law s → IsMesh law.mesh → p < length law.mesh.pipes → x ≡ get_or (get_or given (get_or joints p d).first.node []) (get_or joints p d).first.index Bad → x ≡ end_point law (s + 1) (row law s) p false
+first-given law s p joints given d x j h good b e =
+    e ∙ ap (λ (y : PipeJoints). get_or (get_or given y.first.node []) y.first.index Bad) (ap (λ js. get_or js p d) j ∙ joints-at law.mesh p d b) ∙ given-at law s p false given h good b
+
+pub last-given : (law : Meaning) (s p : ℕ) (joints : List PipeJoints) (given : List (List Point)) (d : PipeJoints) (x : Point) → joints ≡ all_joints law.mesh → given ≡ all_ends law s → IsMesh law.mesh → p < length law.mesh.pipes → x ≡ get_or (get_or given (get_or joints p d).last.node []) (get_or joints p d).last.index Bad → x ≡ end_point law (s + 1) (row law s) p true
+last-given law s p joints given d x j h good b e =
+    e ∙ ap (λ (y : PipeJoints). get_or (get_or given y.last.node []) y.last.index Bad) (ap (λ js. get_or js p d) j ∙ joints-at law.mesh p d b) ∙ given-at law s p true given h good b
+
+-- ---- as many points as there are places
+
+pub places-of_points : (law : Meaning) (s : ℕ) (lines : List (List Point)) → lines ≡ all_points law s → HasPlaces law.mesh lines
+places-of_points law s lines h = record {
+  pipes = ap length h ∙ length-all_points law s;
+  places = λ p b. ap (λ ys. length (get_or ys p [])) h ∙ ap length (pipe-at law s p [] b) ∙ length-points law s p;
+}
+
+-- lists of blank points, one by one
+pub places-of_room : (mesh : Mesh) (n : ℕ) (lines : List (List Point)) → n ≡ length mesh.pipes → lines ≡ map (λ p. replicate (reaches mesh p + 1) Bad) (range_with_len 0 n) → HasPlaces mesh lines
+places-of_room mesh n lines e h =
+    let f : ℕ → List Point = λ p. replicate (reaches mesh p + 1) Bad in
+    record {
+      pipes = ap length h ∙ length-map-range_with_len f 0 n ∙ e;
+      places = λ p b. ap (λ ys. length (get_or ys p [])) h ∙ ap length (get_or-map-range_with_len f 0 n p p [] (omega arith) (omega arith)) ∙ length-replicate (reaches mesh p + 1) Bad;
+    }
+
+pub ends-of_room : (mesh : Mesh) (n : ℕ) (given : List (List Point)) → n ≡ length mesh.ends → given ≡ map (λ k. replicate (length (ends_of mesh k)) Bad) (range_with_len 0 n) → HasEnds mesh given
+ends-of_room mesh n given e h =
+    let f : ℕ → List Point = λ k. replicate (length (ends_of mesh k)) Bad in
+    record {
+      nodes = ap length h ∙ length-map-range_with_len f 0 n ∙ e;
+      ends = λ k b. ap (λ ys. length (get_or ys k [])) h ∙ ap length (get_or-map-range_with_len f 0 n k k [] (omega arith) (omega arith)) ∙ length-replicate (length (ends_of mesh k)) Bad;
+    }
+
+-- one list written over
+pub ends-set : (mesh : Mesh) (given : List (List Point)) (k : ℕ) (x : List Point) → HasEnds mesh given → k < length mesh.ends → length x ≡ length (ends_of mesh k) → HasEnds mesh (set given k x)
+ends-set mesh given k x h b e =
+    let n : length given ≡ length mesh.ends = h.nodes in
+    record {
+      nodes = length-set given k x ∙ h.nodes;
+      ends = λ j l. elim (eqb_tells j k) [
+        | inl t ↦ ap (λ i. length (get_or (set given k x) i [])) t.1 ∙ ap length (get_or-set_same given k x [] (omega arith)) ∙ e ∙ ap (λ i. length (ends_of mesh i)) (sym t.1)
+        | inr t ↦ ap length (get_or-set_other given k j x [] t.1) ∙ h.ends j l
+      ];
+    }
+
+-- ---- the marks of a row, and its first fault
+
+pub marks-of_row : (law : Meaning) (s : ℕ) (own : List NodeState) (lines : List (List Point)) → own ≡ states law s → lines ≡ all_points law s → bad_marks own lines ≡ bad_places law s
+unfolding bad_places all_points
+marks-of_row law s own lines e h =
+    ap (λ o. bad_marks o lines) e ∙ ap (bad_marks (states law s)) h ∙ ap (λ r. map is_bad_state (states law s) ++ r) (flat_map-map (map is_bad) (points law s) (range_with_len 0 (length law.mesh.pipes)))
+
+pub fault-at_start : (law : Meaning) (o : Option ℕ) → position (λ bad. bad) (bad_places law 0) ≡ o → first_fault law 0 ≡ option_map (λ k. (0, k)) o
+unfolding first_fault row_fault
+fault-at_start law o h = ap (option_map (λ k. (0, k))) h
+
+pub fault-later : (law : Meaning) (s : ℕ) (o : Option ℕ) → first_fault law s ≡ None → position (λ bad. bad) (bad_places law (s + 1)) ≡ o → first_fault law (s + 1) ≡ option_map (λ k. (s + 1, k)) o
+unfolding first_fault row_fault
+fault-later law s o none h = rw (add-one, none) (rw (← add-one) (ap (option_map (λ k. (s + 1, k))) h))
+
+pub marks-few : (law : Meaning) (s n : ℕ) (own : List NodeState) (lines : List (List Point)) → own ≡ states law s → lines ≡ all_points law s → places_before law.mesh (length law.mesh.pipes) < n → length (bad_marks own lines) < n
+marks-few law s n own lines e h b =
+    let count : length (bad_marks own lines) ≡ places_before law.mesh (length law.mesh.pipes) = ap length (marks-of_row law s own lines e h) ∙ length-places law s in
+    rw count b
+
+-- a fault stays the first
+stays : (law : Meaning) (last : ℕ) (fault : ℕ × ℕ) → first_fault law last ≡ Some fault → first_fault law (suc last) ≡ Some fault
+unfolding first_fault
+stays law last fault e = ap (λ o. earlier_or o (row_fault law (suc last))) e
+
+pub fault-stays : (law : Meaning) (s last : ℕ) (fault : ℕ × ℕ) → s ≤ last → first_fault law s ≡ Some fault → first_fault law last ≡ Some fault
+fault-stays law s zero fault h e = let z : s ≡ 0 = omega arith in subst (λ t. first_fault law t ≡ Some fault) z e
+fault-stays law s (suc last) fault h e =
+    elim (leb_tells s last) [
+      | inl t ↦ stays law last fault (fault-stays law s last fault t.1 e)
+      | inr t ↦ let b : last < s = t.1 in let z : s ≡ suc last = omega arith in subst (λ t. first_fault law t ≡ Some fault) z e
+    ]
+
+pub fault-here : (law : Meaning) (s place : ℕ) (own : List NodeState) (lines : List (List Point)) → own ≡ states law (s + 1) → lines ≡ all_points law (s + 1) → first_fault law s ≡ None → position (λ bad. bad) (bad_marks own lines) ≡ Some place → first_fault law (s + 1) ≡ Some (s + 1, place)
+fault-here law s place own lines e h none p =
+    fault-later law s (Some place) none (ap (position (λ bad. bad)) (sym (marks-of_row law (s + 1) own lines e h)) ∙ p)
+
+pub none-here : (law : Meaning) (s : ℕ) (own : List NodeState) (lines : List (List Point)) → own ≡ states law (s + 1) → lines ≡ all_points law (s + 1) → first_fault law s ≡ None → position (λ bad. bad) (bad_marks own lines) ≡ None → first_fault law (s + 1) ≡ None
+none-here law s own lines e h none p =
+    fault-later law s None none (ap (position (λ bad. bad)) (sym (marks-of_row law (s + 1) own lines e h)) ∙ p)
+
+pub start-here : (law : Meaning) (o : Option ℕ) (own : List NodeState) (lines : List (List Point)) → own ≡ states law 0 → lines ≡ all_points law 0 → position (λ bad. bad) (bad_marks own lines) ≡ o → first_fault law 0 ≡ option_map (λ k. (0, k)) o
+start-here law o own lines e h p =
+    fault-at_start law o (ap (position (λ bad. bad)) (sym (marks-of_row law 0 own lines e h)) ∙ p)
+
+-- ---- what a step leaves in lists that were lent to it whole
+
+pub states-after : (law : Meaning) (s n : ℕ) (own ws : List NodeState) → n ≡ length own → own ≡ states law s → ws ≡ states law (s + 1) → take n (ws ++ drop (length ws) own) ≡ states law (s + 1)
+states-after law s n own ws l e w =
+    all-written n own ws (l ∙ ap length e ∙ length-states law s ∙ sym (ap length w ∙ length-states law (s + 1))) ∙ w
+
+pub points-after : (law : Meaning) (s n : ℕ) (lines ws : List (List Point)) → n ≡ length lines → HasPlaces law.mesh lines → ws ≡ all_points law s → take n (ws ++ drop (length ws) lines) ≡ all_points law s
+points-after law s n lines ws l h w =
+    all-written n lines ws (l ∙ h.pipes ∙ sym (ap length w ∙ length-all_points law s)) ∙ w
+
+pub ends-after : (mesh : Mesh) (n : ℕ) (given ws : List (List Point)) → n ≡ length given → HasEnds mesh given → HasEnds mesh ws → HasEnds mesh (take n (ws ++ drop (length ws) given))
+ends-after mesh n given ws l h w = subst (HasEnds mesh) (sym (all-written n given ws (l ∙ h.nodes ∙ sym w.nodes))) w

@@ -1,0 +1,14 @@
+use Rattle.std.proofs.Common.{◌≡◌, None}
+use Rattle.case_model.specs.FirstFault.{first_fault}
+use Rattle.case_model.specs.Rows.{states, all_points}
+use Rattle.row_steps.specs.Stepping.{HasPlaces, HasEnds}
+use Rattle.row_steps.proofs.run.run_steps.Given as goal
+
+abbrev pub invariant-loop-step : goal.invariant-loop-step
+invariant-loop-step g l = record {
+  own : l.own.items ≡ states (g.L.Law.meaning l.law) l.step;
+  old : l.old.items ≡ all_points (g.L.Law.meaning l.law) l.step;
+  given : HasEnds (g.L.Law.meaning l.law).mesh l.given.items;
+  new : HasPlaces (g.L.Law.meaning l.law).mesh l.new.items;
+  none : first_fault (g.L.Law.meaning l.law) l.step ≡ None;
+}
