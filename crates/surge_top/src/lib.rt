@@ -5,3 +5,4 @@ mod building;
 mod entry;
 mod meshing;
 mod rows;
+mod texts;
