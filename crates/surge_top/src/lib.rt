@@ -5,4 +5,6 @@ mod building;
 mod entry;
 mod meshing;
 mod rows;
+#[cfg(test)]
+mod text_tests;
 mod texts;

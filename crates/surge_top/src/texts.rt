@@ -37,7 +37,13 @@ pub(crate) fn write_refusal<K: Sink>(number: u8, line: u64, out: &mut K) -> Resu
 
 /// Writes the line that names the first place, by its number, and the step at which its numbers left their range.
 /// `Failed` comes only where the sink's count of faults rose in this call, and then a first part was written.
-pub(crate) fn write_range<K: Sink>(case: &Case, mesh: &Mesh, step: u64, place: u64, out: &mut K) -> Result<(), Failed>
+pub(crate) fn write_range<K: Sink>(
+    case: &Case,
+    mesh: &Mesh,
+    step: u64,
+    place: u64,
+    out: &mut K,
+) -> Result<(), Failed>
     requires { length mesh.now.pipes ≡ length case.now.pipes }
     ensures all { OnOk result (Appends (K.held out.old) (K.held out.new) (range_text case.now mesh.now step place)) }
     ensures front { OnErr result (AppendsFront (K.held out.old) (K.held out.new) (range_text case.now mesh.now step place)) }
@@ -51,7 +57,12 @@ pub(crate) fn write_range<K: Sink>(case: &Case, mesh: &Mesh, step: u64, place: u
 /// Writes the heads of a row, one line for each place in order of number; a Bad place has the head 0.
 /// `Failed` comes only where the sink's count of faults rose in this call, and then a first part was written.
 #[tactic(auto, unfolding(crate::specs::Texts::heads_text))]
-pub(crate) fn write_heads<K: Sink>(case: &Case, states: &[NodeState], points: &[List<Point>], out: &mut K) -> Result<(), Failed>
+pub(crate) fn write_heads<K: Sink>(
+    case: &Case,
+    states: &[NodeState],
+    points: &[List<Point>],
+    out: &mut K,
+) -> Result<(), Failed>
     requires nodes { length states.now ≡ length case.now.nodes }
     requires pipes { length points.now ≡ length case.now.pipes }
     ensures all { OnOk result (Appends (K.held out.old) (K.held out.new) (heads_text case.now states.now points.now)) }
@@ -233,7 +244,12 @@ fn place_line(case: &Case, p: usize, points: &[Point], i: usize) -> Line
 }
 
 // Adds the lines of all nodes.
-fn add_nodes<K: Sink>(case: &Case, states: &[NodeState], page: &mut Page, out: &mut K) -> Result<(), Failed>
+fn add_nodes<K: Sink>(
+    case: &Case,
+    states: &[NodeState],
+    page: &mut Page,
+    out: &mut K,
+) -> Result<(), Failed>
     requires { length states.now ≡ length case.now.nodes }
     ensures all { OnOk result (Adds (K.held out.old) page.old (K.held out.new) page.new (node_lines case.now states.now)) }
     ensures front { OnErr result (AddsFront (K.held out.old) page.old (K.held out.new) (node_lines case.now states.now)) }
@@ -248,7 +264,13 @@ fn add_nodes<K: Sink>(case: &Case, states: &[NodeState], page: &mut Page, out: &
 }
 
 // Adds the lines of the places of one pipe.
-fn add_places<K: Sink>(case: &Case, p: usize, points: &[Point], page: &mut Page, out: &mut K) -> Result<(), Failed>
+fn add_places<K: Sink>(
+    case: &Case,
+    p: usize,
+    points: &[Point],
+    page: &mut Page,
+    out: &mut K,
+) -> Result<(), Failed>
     requires { p < length case.now.pipes }
     ensures all { OnOk result (Adds (K.held out.old) page.old (K.held out.new) page.new (flat_map (place_line case.now p points.now) (range_with_len 0 (length points.now)))) }
     ensures front { OnErr result (AddsFront (K.held out.old) page.old (K.held out.new) (flat_map (place_line case.now p points.now) (range_with_len 0 (length points.now)))) }
@@ -264,7 +286,13 @@ fn add_places<K: Sink>(case: &Case, p: usize, points: &[Point], page: &mut Page,
 
 // Adds the lines of one pipe of several.
 #[tactic(auto, unfolding(crate::specs::Texts::pipe_lines))]
-fn add_pipe<K: Sink>(case: &Case, points: &[List<Point>], p: usize, page: &mut Page, out: &mut K) -> Result<(), Failed>
+fn add_pipe<K: Sink>(
+    case: &Case,
+    points: &[List<Point>],
+    p: usize,
+    page: &mut Page,
+    out: &mut K,
+) -> Result<(), Failed>
     requires pipe { p < length case.now.pipes }
     requires points { p < length points.now }
     ensures all { OnOk result (Adds (K.held out.old) page.old (K.held out.new) page.new (pipe_lines case.now points.now p)) }
@@ -276,7 +304,12 @@ fn add_pipe<K: Sink>(case: &Case, points: &[List<Point>], p: usize, page: &mut P
 }
 
 // Adds the lines of all pipes.
-fn add_pipes<K: Sink>(case: &Case, points: &[List<Point>], page: &mut Page, out: &mut K) -> Result<(), Failed>
+fn add_pipes<K: Sink>(
+    case: &Case,
+    points: &[List<Point>],
+    page: &mut Page,
+    out: &mut K,
+) -> Result<(), Failed>
     requires { length points.now ≡ length case.now.pipes }
     ensures all { OnOk result (Adds (K.held out.old) page.old (K.held out.new) page.new (places_lines case.now points.now)) }
     ensures front { OnErr result (AddsFront (K.held out.old) page.old (K.held out.new) (places_lines case.now points.now)) }

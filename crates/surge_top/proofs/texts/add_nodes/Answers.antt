@@ -10,7 +10,7 @@ returns-in_err-add-clause-front g c =
     let e : c.as_bytes.result.now ≡ node_line c.args.case.now c.args.states.now c.loop-k.k = cc in
     let one = rw e at c.in_err-add.ensures.front in
     let h = front_within (node_line c.args.case.now c.args.states.now) c.loop-k.k (length c.args.case.now.nodes)
-        (g.K.Sink.held c.args.out.now) (g.K.Sink.held c.loop-k.out) (g.K.Sink.held c.add.new.out) c.args.page.now c.loop-k.page (omega arith) c.loop-k.invariant.added one in
+    (g.K.Sink.held c.args.out.now) (g.K.Sink.held c.loop-k.out) (g.K.Sink.held c.add.new.out) c.args.page.now c.loop-k.page (omega arith) c.loop-k.invariant.added one in
     search rules
 
 pub loop-k-preserved : goal.loop-k-preserved

@@ -8,7 +8,7 @@ use Rattle.surge_top.proofs.texts.add_pipes.Goals as goal
 pub returns-in_err-add_pipe-clause-front : goal.returns-in_err-add_pipe-clause-front
 returns-in_err-add_pipe-clause-front g c =
     let h = front_within (pipe_lines c.args.case.now c.args.points.now) c.loop-p.p (length c.args.case.now.pipes)
-        (g.K.Sink.held c.args.out.now) (g.K.Sink.held c.loop-p.out) (g.K.Sink.held c.add_pipe.new.out) c.args.page.now c.loop-p.page (omega arith) c.loop-p.invariant.added c.in_err-add_pipe.ensures.front in
+    (g.K.Sink.held c.args.out.now) (g.K.Sink.held c.loop-p.out) (g.K.Sink.held c.add_pipe.new.out) c.args.page.now c.loop-p.page (omega arith) c.loop-p.invariant.added c.in_err-add_pipe.ensures.front in
     search rules
 
 pub loop-p-preserved : goal.loop-p-preserved

@@ -10,7 +10,7 @@ returns-in_err-add-clause-front g c =
     let e : c.as_bytes.result.now ≡ place_line c.args.case.now c.args.p c.args.points.now c.loop-i.i = cc in
     let one = rw e at c.in_err-add.ensures.front in
     let h = front_within (place_line c.args.case.now c.args.p c.args.points.now) c.loop-i.i (length c.args.points.now)
-        (g.K.Sink.held c.args.out.now) (g.K.Sink.held c.loop-i.out) (g.K.Sink.held c.add.new.out) c.args.page.now c.loop-i.page (omega arith) c.loop-i.invariant.added one in
+    (g.K.Sink.held c.args.out.now) (g.K.Sink.held c.loop-i.out) (g.K.Sink.held c.add.new.out) c.args.page.now c.loop-i.page (omega arith) c.loop-i.invariant.added one in
     search rules
 
 pub loop-i-preserved : goal.loop-i-preserved
