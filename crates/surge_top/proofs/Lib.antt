@@ -1,1 +1,4 @@
 pub mod Answering
+pub mod Divided
+pub mod Heads
+pub mod Listed

@@ -15,6 +15,10 @@ use Rattle.short_law.specs.Laws.{node_at, pipe_at}
 abbrev pub line_of : List (List ℕ) → List ℕ
 line_of fields = join_with_byte 32 fields ++ 10 ∷ []
 
+-- fields with a blank before each
+abbrev pub spaced : List (List ℕ) → List ℕ
+spaced fields = flat_map (λ field. 32 ∷ field) fields
+
 -- a step, a place or a count; a head in 1e-6 m
 abbrev pub count_text : ℕ → List ℕ
 count_text n = written 0 (pos n)
@@ -74,7 +78,13 @@ place_line case p points i = line_of (codes "last" ∷ (pipe_at case p).name ∷
 unfoldable pub pipe_lines : Case → List (List Point) → ℕ → List ℕ
 pipe_lines case points p = flat_map (place_line case p (slice_index_or points p [])) (range_with_len 0 (length (slice_index_or points p [])))
 
+-- the lines of all nodes, and of the places of all pipes, in file order
+abbrev pub node_lines : Case → List NodeState → List ℕ
+node_lines case states = flat_map (node_line case states) (range_with_len 0 (length case.nodes))
+
+abbrev pub places_lines : Case → List (List Point) → List ℕ
+places_lines case points = flat_map (pipe_lines case points) (range_with_len 0 (length case.pipes))
+
 -- the heads of a row: one line for each place in order of number, the nodes and then the places of each pipe
 unfoldable pub heads_text : Case → List NodeState → List (List Point) → List ℕ
-heads_text case states points =
-    flat_map (node_line case states) (range_with_len 0 (length case.nodes)) ++ flat_map (pipe_lines case points) (range_with_len 0 (length case.pipes))
+heads_text case states points = node_lines case states ++ places_lines case points

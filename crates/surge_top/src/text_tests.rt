@@ -1,0 +1,111 @@
+//! Each printed text through a sink over memory.
+use super::texts::{write_heads, write_range, write_refusal, write_usage};
+use case_model::{Case, List, Mesh, Name, Node, NodeKind, NodeState, Pipe, PipeMesh, Point, Value};
+use std::alloc::{AllocError, Global};
+use std::test::Fail;
+use surge_io::MemorySink;
+
+// A sink with room that never fails.
+fn sink(alloc: Global) -> Result<MemorySink, AllocError> {
+    let failing = Vec::new(alloc);
+    MemorySink::make(alloc, 1_000, failing)
+}
+
+fn reservoir(name: Name) -> Node {
+    Node {
+        name,
+        line: 4,
+        elevation: 0,
+        kind: NodeKind::Reservoir {
+            head: Value::Fixed(100_000_000),
+        },
+    }
+}
+
+// A pipe P of two reaches from node A to node B, and its mesh.
+fn two_nodes(alloc: Global) -> Result<(Case, Mesh), AllocError> {
+    let pipe = Pipe {
+        name: Name::of(b"P"),
+        line: 6,
+        first: 0,
+        last: 1,
+        length: 200_000,
+        diameter: 1_000,
+        speed: 1_000_000,
+        friction: 0,
+        flow: 0,
+    };
+    let reaches = PipeMesh {
+        reaches: 2,
+        b: 129_834_328,
+        r: 0,
+        base: 2,
+    };
+    let case = Case {
+        dt: 100_000,
+        steps: 2,
+        vapour: -10_100_000,
+        weight: 10,
+        tolerance: 150,
+        every: 1,
+        tables: List::over(Vec::new(alloc)),
+        nodes: List::over(vec![in alloc; reservoir(Name::of(b"A")), reservoir(Name::of(b"B"))]?),
+        pipes: List::over(vec![in alloc; pipe]?),
+        probes: List::over(Vec::new(alloc)),
+    };
+    let mesh = Mesh {
+        pipes: List::over(vec![in alloc; reaches]?),
+        ends: List::over(Vec::new(alloc)),
+        places: 5,
+    };
+    Ok((case, mesh))
+}
+
+#[test]
+fn usage_and_refusals_are_one_line(rt: HostRuntime) -> Result<(), Fail> {
+    let mut out = sink(rt.alloc())?;
+    assert_eq!(rt; write_usage(&mut out), Ok(()));
+    assert_eq!(rt; write_refusal(1, 1, &mut out), Ok(()));
+    assert_eq!(rt; write_refusal(7, 6, &mut out), Ok(()));
+    assert_eq!(rt; write_refusal(90, 3, &mut out), Ok(()));
+    let want =
+        "usage: surge rounds\nrefused 1 line 1 first line\nrefused 7 line 6 name unknown\nrefused 90 line 3 not read yet\n";
+    assert_eq!(rt; out.bytes(), want.as_bytes());
+    Ok(())
+}
+
+#[test]
+fn a_range_line_names_the_node_or_the_place_in_its_pipe(rt: HostRuntime) -> Result<(), Fail> {
+    let (case, mesh) = two_nodes(rt.alloc())?;
+    assert_eq!(rt; mesh.pipes.as_slice().len(), case.pipes.as_slice().len());
+    let mut out = sink(rt.alloc())?;
+    assert_eq!(rt; write_range(&case, &mesh, 1, 1, &mut out), Ok(()));
+    assert_eq!(rt; write_range(&case, &mesh, 12, 4, &mut out), Ok(()));
+    assert_eq!(rt; out.bytes(), "range 1 B\nrange 12 P 2\n".as_bytes());
+    Ok(())
+}
+
+#[test]
+fn heads_are_one_line_for_each_place(rt: HostRuntime) -> Result<(), Fail> {
+    let (case, _mesh) = two_nodes(rt.alloc())?;
+    let heads = [100_000_000, 164_917_164];
+    let states = heads.map(|h| NodeState::Good { h, v: 0, g: 0 });
+    let points = [100_000_000, 164_917_164, -60_836].map(|h| Point::Good {
+        h,
+        qu: 0,
+        qd: 0,
+        v: 0,
+    });
+    let rows = vec![in rt.alloc(); List::over(points.to_vec(rt.alloc())?)]?;
+    assert_eq!(rt; states.len(), case.nodes.as_slice().len());
+    assert_eq!(rt; rows.len(), case.pipes.as_slice().len());
+    let mut out = sink(rt.alloc())?;
+    assert_eq!(rt;
+        write_heads(&case, &states, rows.as_slice(), &mut out),
+        Ok(())
+    );
+    let want =
+        "last A 100.000000\nlast B 164.917164\nlast P 0 100.000000\nlast P 1 164.917164\nlast P 2 -0.060836\n";
+    assert_eq!(rt; out.bytes(), want.as_bytes());
+    Ok(())
+}
