@@ -25,7 +25,7 @@ use Rattle.short_case.specs.ShortMesh.{reach_count, pipe_meshes, places_from, en
 use Rattle.short_law.specs.Laws.{IsComputable, start_head, node_at, pipe_at, no_node, no_pipe, impedance}
 use Rattle.short_case.proofs.Accepted.{all_right, and_left, and_right, or_left, or_right}
 
-at_index : {X : Type 0} (P : X → Type 0) (xs : List X) (d : X) → P d → AllByRecursion P xs → (k : ℕ) → P (get_or xs k d)
+pub at_index : {X : Type 0} (P : X → Type 0) (xs : List X) (d : X) → P d → AllByRecursion P xs → (k : ℕ) → P (get_or xs k d)
 at_index P [] d p h k = p
 at_index P (x ∷ xs) d p h zero = h.0
 at_index P (x ∷ xs) d p h (suc k) = at_index P xs d p h.1 k
@@ -155,7 +155,7 @@ ends_good case k h =
     rw (get_or-map-range_with_len (λ j. ends_at j 0 case.pipes) 0 (length case.nodes) k k [] h (omega arith), pipes_long (unsigned_abs case.dt) (length case.nodes) case.pipes)
     (ends_few k 0 (length case.pipes) case.pipes (omega arith))
 
-ends_number : (case : Case) → length (mesh_of case).ends ≡ length case.nodes
+pub ends_number : (case : Case) → length (mesh_of case).ends ≡ length case.nodes
 unfolding mesh_of
 ends_number case = length-map-range_with_len (λ k. ends_at k 0 case.pipes) 0 (length case.nodes)
 

@@ -6,3 +6,4 @@ pub mod Fits
 pub mod LeastPair
 pub mod LinesRead
 pub mod Listed
+pub mod Small

@@ -5,4 +5,5 @@ pub mod Right
 pub mod Sets
 pub mod Short
 pub mod ShortMesh
+pub mod Sizes
 pub mod Sound

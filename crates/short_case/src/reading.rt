@@ -1,6 +1,7 @@
 ghost use Rattle.std.specs.Prelude.{◌≡◌, ◌<◌, ◌≤◌, length, true, false, Ok, Err, IfOk, IfErr, IfSome};
 ghost use Rattle.short_case.specs.Reading.{refusal_in};
 ghost use Rattle.short_case.specs.ShortMesh.{verdict};
+ghost use Rattle.short_case.specs.Sizes.{IsSmall};
 ghost use Rattle.short_law.specs.Laws.{IsComputable};
 
 use crate::building::case_of;
@@ -18,6 +19,7 @@ pub const MOST_BYTES: usize = 65_536;
 pub fn read_case(alloc: Global, bytes: &[u8]) -> Result<(Case, Mesh), LineFault>
     ensures accepted { IfOk result (λ r. verdict bytes.now ≡ Ok (r.0, r.1)) }
     ensures computable { IfOk result (λ r. IsComputable r.0 r.1) }
+    ensures small { IfOk result (λ r. IsSmall r.0 r.1) }
     ensures refused { IfErr result (λ fault. IfSome (refusal_in fault) (λ r. verdict bytes.now ≡ Err r)) }
 {
     if bytes.len() > MOST_BYTES {

@@ -1,8 +1,8 @@
--- All that the law of a short case makes is in range.
-use Rattle.std.specs.Prelude.{◌≡◌, ◌≤◌, ℕ, ◌==◌, ◌&&◌, nat_le, int_le, Bool, true, false, cond, IsTrue, ℤ, pos, neg_ℤ, ◌≤ℤ◌, unsigned_abs, Option, Some, None, List, [], ◌∷◌, length, refl}
+-- All that the law of a short case makes is in range, and what it relies on holds in one way at most.
+use Rattle.std.specs.Prelude.{ℕ, ◌&&◌, Bool, true, false, cond, ℤ, Option, Some, None, List, [], ◌∷◌}
 use Rattle.std.specs.List.{All, AllByRecursion}
-use Rattle.std.proofs.Common.{arith, rules}
-use Rattle.std.proofs.lemmas.Int.{ints}
+use Rattle.std.proofs.Props.{props}
+use Rattle.std.proofs.Common.{arith}
 use Rattle.std.proofs.lemmas.Bool.Decides.{nat_tests}
 use Rattle.std.proofs.lemmas.List.Elements.{All-from_recursion}
 use Rattle.case_model.specs.declared.cases.Case.{Case}
@@ -14,10 +14,10 @@ use Rattle.case_model.specs.declared.points.Point.{Point}
 use Rattle.case_model.specs.declared.points.Point.TheVariants.{Good, Bad}
 use Rattle.case_model.specs.declared.states.NodeState.{NodeState}
 use Rattle.case_model.specs.declared.states.NodeState.TheVariants.{Good as GoodState, Bad as BadState}
-use Rattle.case_model.specs.Meaning.{Meaning, IsMeaning}
-use Rattle.case_model.specs.Range.{IsPoint, IsState, InRange, InStateRange, point_of, state_of}
+use Rattle.case_model.specs.Meaning.{IsMeaning}
+use Rattle.case_model.specs.Range.{IsPoint, IsState, point_of, state_of}
 use Rattle.case_model.specs.Places.{is_bad_state}
-use Rattle.short_law.specs.Laws.{met, inner_point, arrive_plus, arrive_minus, is_in_range, state_at, reads_own, node_head, node_state, end_point, end_points, law_state, law_ends, start_point, start_node, meaning_of}
+use Rattle.short_law.specs.Laws.{met, inner_point, arrive_plus, arrive_minus, state_at, reads_own, node_head, node_state, end_point, end_points, law_state, law_ends, start_point, start_node, meaning_of, IsComputable}
 
 point_of-good : (h qu qd v : ℤ) → IsPoint (point_of h qu qd v)
 unfolding point_of
@@ -84,3 +84,6 @@ meaning_of-good case mesh = record {
   start_point = start_point-good case mesh;
   start_node = start_node-good case;
 }
+
+pub IsComputable-prop : (case : Case) (mesh : Mesh) → IsProp (IsComputable case mesh)
+IsComputable-prop case mesh = Prim.hlevel props

@@ -1,6 +1,6 @@
 -- The hydraulic laws that a short case needs, in whole numbers with one rounding rule.
 -- After Wylie and Streeter, Fluid Transients in Systems: characteristics, reservoir, junction.
-use Rattle.std.specs.Prelude.{◌≡◌, ◌<◌, ◌≤◌, ℕ, ◌+◌, ◌*◌, ◌==◌, ◌&&◌, not, nat_le, Bool, true, false, ℤ, pos, neg_ℤ, ◌+ℤ◌, ◌-ℤ◌, ◌*ℤ◌, ◌≤ℤ◌, unsigned_abs, Option, Some, None, if◌then◌else◌, List, [], ◌∷◌, length, map, replicate, slice_index_or}
+use Rattle.std.specs.Prelude.{◌≡◌, ◌<◌, ◌≤◌, ℕ, ◌&&◌, nat_le, Bool, true, false, ℤ, pos, neg_ℤ, ◌+ℤ◌, ◌-ℤ◌, ◌*ℤ◌, ◌≤ℤ◌, unsigned_abs, Option, Some, None, if◌then◌else◌, List, [], ◌∷◌, length, map, replicate, slice_index_or}
 use Rattle.std.specs.List.{list_all}
 use Rattle.fixed_num.specs.Rounding.{rnd}
 use Rattle.case_model.specs.declared.points.Point.{Point}
@@ -9,13 +9,11 @@ use Rattle.case_model.specs.declared.states.NodeState.{NodeState}
 use Rattle.case_model.specs.declared.states.NodeState.TheVariants.{Good as GoodState, Bad as BadState}
 use Rattle.case_model.specs.declared.meshes.Arrival.{Arrival}
 use Rattle.case_model.specs.declared.meshes.End.{End}
-use Rattle.case_model.specs.declared.meshes.PipeMesh.{PipeMesh}
 use Rattle.case_model.specs.declared.meshes.Mesh.{Mesh}
 use Rattle.case_model.specs.declared.cases.Case.{Case}
 use Rattle.case_model.specs.declared.cases.Node.{Node}
 use Rattle.case_model.specs.declared.cases.NodeKind.{NodeKind}
 use Rattle.case_model.specs.declared.cases.NodeKind.TheVariants.{Reservoir, Junction, Discharge, Inline, Pump, Tank, Vessel}
-use Rattle.case_model.specs.declared.cases.Value.{Value}
 use Rattle.case_model.specs.declared.cases.Value.TheVariants.{Fixed, ByTable}
 use Rattle.case_model.specs.declared.cases.Pipe.{Pipe}
 use Rattle.case_model.specs.Range.{point_of, state_of}
@@ -212,7 +210,7 @@ start_head (Pump curve speed start start2) = start
 start_head (Tank area start) = start
 start_head (Vessel gas volume) = pos 0
 
--- row 0 of a node, and of a place: heads between those of the pipe's nodes, and the pipe's flow
+-- a node and a place at step 0: heads between those of the pipe's nodes, and the pipe's flow
 unfoldable pub start_node : Case → ℕ → NodeState
 start_node case k = state_of (start_head (node_at case k).kind) (pos 0) (pos 0)
 

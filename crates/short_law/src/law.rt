@@ -1,7 +1,6 @@
 ghost use Rattle.std.specs.Prelude.{◌≡◌};
 ghost use Rattle.short_law.specs.Laws.{IsComputable, meaning_of};
-ghost use Rattle.short_law.specs.LawRange.{meaning_of-good};
-ghost use Rattle.std.proofs.Props.{props};
+ghost use Rattle.short_law.specs.LawRange.{IsComputable-prop, meaning_of-good};
 
 use crate::arrivals::impedance;
 use crate::characteristics::inner_point;
@@ -14,7 +13,7 @@ use case_model::{Arrival, Case, Law, Mesh, NodeState, Point};
 pub struct ShortLaw<'a> {
     case: &'a Case,
     mesh: &'a Mesh,
-    ghost fit: { IsComputable case.now mesh.now } by { Prim.hlevel props },
+    ghost fit: { IsComputable case.now mesh.now } by { IsComputable-prop case.now mesh.now },
 }
 
 impl<'a> ShortLaw<'a> {

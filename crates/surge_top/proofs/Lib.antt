@@ -1,4 +1,2 @@
 pub mod Answering
-pub mod Divided
 pub mod Heads
-pub mod Listed

@@ -1,13 +1,12 @@
-//! The top call of `surge`.
+//! The top call of `surge`: words and a case text in, the answer out, under the headline's clause.
 #![tactic(auto)]
 
-mod building;
-mod entry;
-mod meshing;
-mod rows;
 mod status;
-mod text_tests;
 mod texts;
+mod top;
 
 pub use status::Status;
+pub use top::surge_plain;
+
 #[cfg(test)]
+mod text_tests;

@@ -1,5 +1,4 @@
 use Rattle.std.proofs.Common.{arith, to_z-of_z}
-use Rattle.std.proofs.lemmas.Int.{ints}
 use Rattle.short_law.proofs.Quotients.{admittance_fits, admittance_least, admittance_most}
 use Rattle.short_law.proofs.nodes.admittance.Goals as goal
 
