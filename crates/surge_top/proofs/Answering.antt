@@ -7,6 +7,12 @@ use Rattle.surge_io.specs.Bytes.{IsReading}
 use Rattle.surge_top.specs.Answer.{Answer, answer, answer_to, are_words}
 use Rattle.short_case.specs.ShortMesh.{verdict}
 use Rattle.surge_top.specs.Texts.{usage_text}
+use Rattle.surge_top.specs.Status.{IsAnswered, number_of}
+use Rattle.surge_top.specs.declared.status.Status.{Status}
+use Rattle.surge_top.specs.declared.status.Status.TheVariants.{Done, Refused, Words, Range, ReadFault, WriteFault, Memory}
+use Rattle.case_model.specs.declared.cases.Case.{Case}
+use Rattle.case_model.specs.declared.meshes.Mesh.{Mesh}
+use Rattle.short_law.specs.Laws.{meaning_of}
 
 verdict_long : (bytes : List ℕ) (other : List ℕ) → 65_536 < length bytes → 65_536 < length other → verdict bytes ≡ verdict other
 unfolding verdict
@@ -38,3 +44,18 @@ for_words (Some bytes) words P w p = subst P (answer_refused words bytes w) p
 pub for_any : (left : Option (List ℕ)) (P : List ℕ → Type 0) → ((bytes : List ℕ) → P bytes) → IfSome left P
 for_any None P p = tt
 for_any (Some bytes) P p = p bytes
+
+-- the law of a case fits its mesh
+pub mesh_fits : (case : Case) (mesh : Mesh) → (meaning_of case mesh).mesh ≡ mesh
+unfolding meaning_of
+mesh_fits case mesh = refl
+
+-- a status that is no fault and no want of memory is that of the answer
+pub complete_from : {A B X : Type 0} (s : Status) (n : ℕ) → (s ≡ ReadFault → ⊥) → (IsAnswered s → X × (number_of s ≡ n)) → (s ≡ WriteFault → B) → (A ⊎ B) ⊎ ((s ≡ Memory) ⊎ (number_of s ≡ n))
+complete_from Done n r a w = inr (inr (a tt).1)
+complete_from Refused n r a w = inr (inr (a tt).1)
+complete_from Words n r a w = inr (inr (a tt).1)
+complete_from Range n r a w = inr (inr (a tt).1)
+complete_from ReadFault n r a w = absurd (r refl)
+complete_from WriteFault n r a w = inl (inr (w refl))
+complete_from Memory n r a w = inr (inl refl)

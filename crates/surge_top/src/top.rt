@@ -53,7 +53,7 @@ pub fn surge_plain<R: AllocGlobal, S: Source, K: Sink>(
         ⊎ ((result ≡ Status.Memory) ⊎ (number_of result ≡ (answer (map (λ w. w.now) words.now) bytes).status))) }
 {
     if !are_words(words) {
-        return finish(write_usage(out), Status::Words);
+        return ended(write_usage(out), Status::Words);
     }
     match whole(rt.alloc(), src, MOST_BYTES) {
         Ok(bytes) => answer_text(rt.alloc(), &bytes, out),

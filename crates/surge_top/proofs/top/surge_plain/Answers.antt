@@ -1,0 +1,48 @@
+use Rattle.std.proofs.Common.{◌≡◌, ℕ, List, map, true, false, rules, ◌⊎◌, inl, inr, refl}
+use Rattle.surge_io.specs.Bytes.{Appends, AppendsFront}
+use Rattle.surge_io.specs.Faults.{Rose}
+use Rattle.surge_top.specs.Answer.{Answer, answer_to, are_words}
+use Rattle.short_case.specs.ShortMesh.{verdict}
+use Rattle.surge_top.specs.Status.{number_of, IsAnswered}
+use Rattle.surge_top.specs.declared.status.Status.TheVariants.{WriteFault, Memory}
+use Rattle.surge_top.proofs.Answering.{for_words, for_taken, complete_from}
+use Rattle.surge_top.proofs.top.surge_plain.Goals as goal
+
+pub returns-then-not-are_words-clause-answer : goal.returns-then-not-are_words-clause-answer
+returns-then-not-are_words-clause-answer g c =
+    for_words (g.S.Source.left c.args.src.now) (map (λ w. w.now) c.args.words.now)
+    (λ a. IsAnswered c.ended.result → Appends (g.K.Sink.held c.args.out.now) (g.K.Sink.held c.write_usage.new.out) a.text × (number_of c.ended.result ≡ a.status))
+    (search rules) (search rules)
+
+pub returns-then-not-are_words-clause-front : goal.returns-then-not-are_words-clause-front
+returns-then-not-are_words-clause-front g c =
+    for_words (g.S.Source.left c.args.src.now) (map (λ w. w.now) c.args.words.now)
+    (λ a. c.ended.result ≡ WriteFault → AppendsFront (g.K.Sink.held c.args.out.now) (g.K.Sink.held c.write_usage.new.out) a.text)
+    (search rules) (search rules)
+
+pub returns-then-not-are_words-clause-complete : goal.returns-then-not-are_words-clause-complete
+returns-then-not-are_words-clause-complete g c =
+    for_words (g.S.Source.left c.args.src.now) (map (λ w. w.now) c.args.words.now)
+    (λ a. (Rose (g.S.Source.faults c.args.src.now) (g.S.Source.faults c.args.src.now) ⊎ Rose (g.K.Sink.faults c.args.out.now) (g.K.Sink.faults c.write_usage.new.out))
+        ⊎ ((c.ended.result ≡ Memory) ⊎ (number_of c.ended.result ≡ a.status)))
+    (search rules) (search rules)
+
+pub returns-in-Ok-clause-answer : goal.returns-in-Ok-clause-answer
+returns-in-Ok-clause-answer g c =
+    for_taken (g.S.Source.left c.args.src.now) (map (λ w. w.now) c.args.words.now) c.in-Ok.bytes.items
+    (λ a. IsAnswered c.answer_text.result → Appends (g.K.Sink.held c.args.out.now) (g.K.Sink.held c.answer_text.new.out) a.text × (number_of c.answer_text.result ≡ a.status))
+    (search rules) c.in-Ok.ensures.bytes (rw (← c.deref.ensures.value) c.answer_text.ensures.answer)
+
+pub returns-in-Ok-clause-front : goal.returns-in-Ok-clause-front
+returns-in-Ok-clause-front g c =
+    for_taken (g.S.Source.left c.args.src.now) (map (λ w. w.now) c.args.words.now) c.in-Ok.bytes.items
+    (λ a. c.answer_text.result ≡ WriteFault → AppendsFront (g.K.Sink.held c.args.out.now) (g.K.Sink.held c.answer_text.new.out) a.text)
+    (search rules) c.in-Ok.ensures.bytes (rw (← c.deref.ensures.value) c.answer_text.ensures.front)
+
+pub returns-in-Ok-clause-complete : goal.returns-in-Ok-clause-complete
+returns-in-Ok-clause-complete g c =
+    for_taken (g.S.Source.left c.args.src.now) (map (λ w. w.now) c.args.words.now) c.in-Ok.bytes.items
+    (λ a. (Rose (g.S.Source.faults c.args.src.now) (g.S.Source.faults c.whole.new.src) ⊎ Rose (g.K.Sink.faults c.args.out.now) (g.K.Sink.faults c.answer_text.new.out))
+        ⊎ ((c.answer_text.result ≡ Memory) ⊎ (number_of c.answer_text.result ≡ a.status)))
+    (search rules) c.in-Ok.ensures.bytes
+    (complete_from {X = Appends (g.K.Sink.held c.args.out.now) (g.K.Sink.held c.answer_text.new.out) (answer_to (verdict c.in-Ok.bytes.items)).text} c.answer_text.result (answer_to (verdict c.in-Ok.bytes.items)).status c.answer_text.ensures.read (rw (← c.deref.ensures.value) c.answer_text.ensures.answer) c.answer_text.ensures.cause)
