@@ -1,3 +1,4 @@
 pub mod Filling
 pub mod Marks
+pub mod OnePipe
 pub mod Stepped
