@@ -1,4 +1,3 @@
 pub mod Filling
 pub mod Marks
-pub mod OnePipe
 pub mod Stepped
