@@ -1,12 +1,10 @@
 -- A law and a mesh for tests: the law keeps its start row, but for what one node gives its ends at one step.
-use Rattle.std.specs.Prelude.{◌≡◌, ℕ, ◌==◌, ◌&&◌, if◌then◌else◌, Bool, true, false, cond, List, [], ◌∷◌, length, replicate, pos}
+use Rattle.std.specs.Prelude.{ℕ, ◌==◌, ◌&&◌, if◌then◌else◌, Bool, true, false, cond, List, [], ◌∷◌, length, replicate, pos}
 use Rattle.std.specs.List.{All}
 use Rattle.std.proofs.Common.{eqb, arith}
 use Rattle.std.proofs.lemmas.Int.{ints}
 use Rattle.std.proofs.lemmas.List.Elements.{All-replicate}
-use Rattle.case_model.specs.declared.meshes.End.{End}
 use Rattle.case_model.specs.declared.meshes.Mesh.{Mesh}
-use Rattle.case_model.specs.declared.meshes.PipeMesh.{PipeMesh}
 use Rattle.case_model.specs.declared.points.Point.{Point}
 use Rattle.case_model.specs.declared.points.Point.TheVariants.{Good, Bad}
 use Rattle.case_model.specs.declared.states.NodeState.TheVariants.{Good as GoodState}
