@@ -1,7 +1,7 @@
 -- Lists that are written over place by place.
 use Rattle.std.specs.Prelude.{◌≡◌, ℕ, ◌+◌, ◌<◌, ◌≤◌, List, length, map, take, drop, ◌++◌, get_or, set, Bool, ◌||◌}
 use Rattle.std.specs.List.{list_any, range_with_len}
-use Rattle.std.proofs.Common.{◌∙◌, ◌≢◌, ap, sym, subst, arith, below_more}
+use Rattle.std.proofs.Common.{◌∙◌, ap, sym, subst, arith, below_more}
 use Rattle.std.proofs.lemmas.List.{get_or-set_other, get_or-set_same, length-set, take-append-le, take_all}
 use Rattle.std.proofs.lemmas.List.FromFn.{fill_by_all, get_or-map-range_with_len, length-map-range_with_len, map-range_with_len_more}
 use Rattle.std.proofs.lemmas.List.Folds.{list_any-append}

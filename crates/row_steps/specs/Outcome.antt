@@ -1,5 +1,5 @@
 -- What stepping a law's mesh to its last step ends with.
-use Rattle.std.specs.Prelude.{◌≡◌, ℕ, Option, Some, None, List}
+use Rattle.std.specs.Prelude.{◌≡◌, ℕ, Some, None}
 use Rattle.case_model.specs.Meaning.{Meaning}
 use Rattle.case_model.specs.Rows.{states, all_points}
 use Rattle.case_model.specs.FirstFault.{first_fault}

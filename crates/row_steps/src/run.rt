@@ -88,3 +88,6 @@ fn run_steps<L: Law>(
         points: old,
     })
 }
+
+#[cfg(test)]
+mod tests;

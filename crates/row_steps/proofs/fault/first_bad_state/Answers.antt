@@ -1,4 +1,4 @@
-use Rattle.std.proofs.Common.{◌≡◌, length, sym, arith, rules}
+use Rattle.std.proofs.Common.{length, sym, arith, rules}
 use Rattle.std.proofs.lemmas.List.Sums.{position_or_len_is}
 use Rattle.case_model.specs.declared.states.NodeState.TheVariants.{Bad}
 use Rattle.case_model.specs.Places.{is_bad_state}

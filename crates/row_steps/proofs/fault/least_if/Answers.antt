@@ -1,4 +1,4 @@
-use Rattle.std.proofs.Common.{◌≡◌, ◌∙◌, sym}
+use Rattle.std.proofs.Common.{◌∙◌, sym}
 use Rattle.row_steps.proofs.Marks.{no-bad}
 use Rattle.row_steps.proofs.fault.least_if.Goals as goal
 

@@ -1,4 +1,4 @@
-use Rattle.std.proofs.Common.{◌≡◌, ◌∙◌, length, map, ap, arith}
+use Rattle.std.proofs.Common.{◌∙◌, length, map, ap, arith}
 use Rattle.std.specs.List.{range_with_len}
 use Rattle.case_model.specs.RowLaws.{listed_more}
 use Rattle.row_steps.specs.Stepping.{joints_of, all_joints}

@@ -1,4 +1,4 @@
-use Rattle.std.proofs.Common.{◌≡◌, ◌∙◌, false, length, sym, arith}
+use Rattle.std.proofs.Common.{◌∙◌, false, length, sym, arith}
 use Rattle.std.proofs.lemmas.List.Sums.{position_or_len_is}
 use Rattle.case_model.specs.declared.meshes.End.{End}
 use Rattle.case_model.specs.Mesh.{is_end}

@@ -1,4 +1,4 @@
-use Rattle.std.proofs.Common.{◌≡◌, ◌∙◌, ◌+◌, ◌<◌, ◌≤◌, ◌^◌, List, Vec, Global, ap, sym, arith, Some, None}
+use Rattle.std.proofs.Common.{◌∙◌, ◌+◌, List, Vec, Global, ap, sym, arith, Some, None}
 use Rattle.case_model.specs.declared.points.Point.{Point}
 use Rattle.row_steps.proofs.Stepped.{marks-few, start-here, fault-here, none-here, fault-stays, places-of_points, states-after, points-after, ends-after}
 use Rattle.row_steps.proofs.run.run_steps.Goals as goal

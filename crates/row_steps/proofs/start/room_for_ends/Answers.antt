@@ -1,4 +1,4 @@
-use Rattle.std.proofs.Common.{◌≡◌, ◌∙◌, ◌+◌, length, [], get_or, replicate, ap, arith}
+use Rattle.std.proofs.Common.{◌∙◌, length, [], get_or, replicate, ap, arith}
 use Rattle.std.proofs.lemmas.List.{get_or_read}
 use Rattle.case_model.specs.declared.points.Point.TheVariants.{Bad}
 use Rattle.case_model.specs.RowLaws.{listed_more}

@@ -1,4 +1,4 @@
-use Rattle.std.proofs.Common.{◌≡◌, ◌∙◌, ◌+◌, length, get_or, replicate, ap, arith}
+use Rattle.std.proofs.Common.{◌∙◌, ◌+◌, length, get_or, replicate, ap, arith}
 use Rattle.case_model.specs.declared.points.Point.TheVariants.{Bad}
 use Rattle.case_model.specs.Mesh.{no_pipe}
 use Rattle.case_model.specs.RowLaws.{listed_more}

@@ -1,4 +1,4 @@
-use Rattle.std.proofs.Common.{◌≡◌, ◌∙◌, length, map, ap, sym, arith, rules}
+use Rattle.std.proofs.Common.{◌∙◌, length, map, ap, arith, rules}
 use Rattle.std.specs.List.{range_with_len}
 use Rattle.case_model.specs.RowLaws.{listed_more}
 use Rattle.case_model.specs.Rows.{points, all_points}

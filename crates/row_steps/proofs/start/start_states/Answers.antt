@@ -1,4 +1,4 @@
-use Rattle.std.proofs.Common.{◌≡◌, ◌∙◌, length, map, ap, sym, arith}
+use Rattle.std.proofs.Common.{◌∙◌, length, map, ap, sym, arith}
 use Rattle.std.specs.List.{range_with_len}
 use Rattle.case_model.specs.RowLaws.{listed_more, row-start}
 use Rattle.case_model.specs.Rows.{Row, row, states}

@@ -1,5 +1,3 @@
-use Rattle.std.proofs.Common.{◌≡◌, rules}
-use Rattle.case_model.specs.Rows.{near, row}
 use Rattle.row_steps.proofs.Stepped.{gathered, ends-within, state-in, near-in, state-made, ends-made}
 use Rattle.row_steps.proofs.step.step_node.Goals as goal
 

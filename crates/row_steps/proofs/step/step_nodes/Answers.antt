@@ -1,9 +1,9 @@
-use Rattle.std.proofs.Common.{◌≡◌, ◌∙◌, ◌+◌, ◌<◌, ◌≤◌, length, get_or, ap, sym, arith, refl, []}
+use Rattle.std.proofs.Common.{◌≡◌, ◌∙◌, ◌+◌, ◌<◌, length, get_or, ap, arith, refl, []}
 use Rattle.std.proofs.lemmas.List.{get_or_default}
 use Rattle.case_model.specs.declared.meshes.Mesh.{Mesh}
 use Rattle.case_model.specs.declared.states.NodeState.TheVariants.{Bad}
 use Rattle.case_model.specs.Places.{is_bad_state}
-use Rattle.case_model.specs.Rows.{row, states, all_ends, node_ends}
+use Rattle.case_model.specs.Rows.{row, states, all_ends}
 use Rattle.row_steps.proofs.Filling.{filled-none, filled-fresh, filled-more, filled-all, any-step, any-all}
 use Rattle.row_steps.proofs.Stepped.{ends-set}
 use Rattle.row_steps.proofs.step.step_nodes.Goals as goal

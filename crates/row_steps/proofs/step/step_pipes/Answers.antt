@@ -1,7 +1,6 @@
-use Rattle.std.proofs.Common.{◌≡◌, ◌∙◌, ◌+◌, ◌<◌, ◌≤◌, length, get_or, [], ap, sym, arith, refl}
+use Rattle.std.proofs.Common.{◌≡◌, ◌∙◌, ◌+◌, length, get_or, [], ap, arith, refl}
 use Rattle.std.specs.List.{list_any}
 use Rattle.std.proofs.lemmas.List.{get_or_default, get_or_read}
-use Rattle.case_model.specs.Mesh.{reaches}
 use Rattle.case_model.specs.Places.{is_bad}
 use Rattle.case_model.specs.RowLaws.{pipe-at, length-all_points}
 use Rattle.case_model.specs.Rows.{points, all_points}
