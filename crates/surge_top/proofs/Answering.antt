@@ -20,8 +20,9 @@ verdict_long bytes other h k = rw (lt-ltb 65_536 (length bytes) h, lt-ltb 65_536
 
 same_verdict : (taken bytes : List ℕ) → IsReading 65_536 taken bytes → verdict taken ≡ verdict bytes
 same_verdict taken bytes r = elim r.2 [
-    inl e ↦ ap verdict (sym (r.1 ∙ ap (λ rest. taken ++ rest) e ∙ append-nil taken))
-  | inr long ↦ verdict_long taken bytes long (let l = ap length r.1 in omega (arith, l, length-append taken r.0)) ]
+  | inl e ↦ ap verdict (sym (r.1 ∙ ap (λ rest. taken ++ rest) e ∙ append-nil taken))
+  | inr long ↦ verdict_long taken bytes long (let l = ap length r.1 in omega (arith, l, length-append taken r.0))
+]
 
 answer_accepted : (words : List (List ℕ)) (taken bytes : List ℕ) → are_words words ≡ true → IsReading 65_536 taken bytes → answer_to (verdict taken) ≡ answer words bytes
 unfolding answer

@@ -10,3 +10,5 @@ pub use top::surge_plain;
 
 #[cfg(test)]
 mod text_tests;
+#[cfg(test)]
+mod top_tests;

@@ -24,7 +24,7 @@ pub returns-then-not-are_words-clause-complete : goal.returns-then-not-are_words
 returns-then-not-are_words-clause-complete g c =
     for_words (g.S.Source.left c.args.src.now) (map (λ w. w.now) c.args.words.now)
     (λ a. (Rose (g.S.Source.faults c.args.src.now) (g.S.Source.faults c.args.src.now) ⊎ Rose (g.K.Sink.faults c.args.out.now) (g.K.Sink.faults c.write_usage.new.out))
-        ⊎ ((c.ended.result ≡ Memory) ⊎ (number_of c.ended.result ≡ a.status)))
+    ⊎ ((c.ended.result ≡ Memory) ⊎ (number_of c.ended.result ≡ a.status)))
     (search rules) (search rules)
 
 pub returns-in-Ok-clause-answer : goal.returns-in-Ok-clause-answer
@@ -43,6 +43,6 @@ pub returns-in-Ok-clause-complete : goal.returns-in-Ok-clause-complete
 returns-in-Ok-clause-complete g c =
     for_taken (g.S.Source.left c.args.src.now) (map (λ w. w.now) c.args.words.now) c.in-Ok.bytes.items
     (λ a. (Rose (g.S.Source.faults c.args.src.now) (g.S.Source.faults c.whole.new.src) ⊎ Rose (g.K.Sink.faults c.args.out.now) (g.K.Sink.faults c.answer_text.new.out))
-        ⊎ ((c.answer_text.result ≡ Memory) ⊎ (number_of c.answer_text.result ≡ a.status)))
+    ⊎ ((c.answer_text.result ≡ Memory) ⊎ (number_of c.answer_text.result ≡ a.status)))
     (search rules) c.in-Ok.ensures.bytes
     (complete_from {X = Appends (g.K.Sink.held c.args.out.now) (g.K.Sink.held c.answer_text.new.out) (answer_to (verdict c.in-Ok.bytes.items)).text} c.answer_text.result (answer_to (verdict c.in-Ok.bytes.items)).status c.answer_text.ensures.read (rw (← c.deref.ensures.value) c.answer_text.ensures.answer) c.answer_text.ensures.cause)
