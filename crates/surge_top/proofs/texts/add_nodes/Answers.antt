@@ -1,6 +1,6 @@
-use Rattle.std.proofs.Common.{rules, arith, ◌≡◌, length, subst, List, ℕ}
+use Rattle.std.proofs.Common.{rules, arith, ◌≡◌, length, subst, ℕ}
 use Rattle.std.specs.List.{flat_map, range_with_len}
-use Rattle.surge_io.specs.Pages.{Adds, AddsFront}
+use Rattle.surge_io.specs.Pages.{Adds}
 use Rattle.surge_top.specs.Texts.{node_line}
 use Rattle.surge_top.proofs.Heads.{adds_next, front_within}
 use Rattle.surge_top.proofs.texts.add_nodes.Goals as goal

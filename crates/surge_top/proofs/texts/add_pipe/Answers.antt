@@ -1,9 +1,7 @@
-use Rattle.std.proofs.Common.{◌≡◌, sym, subst, ◌∙◌, ap, List, ℕ, [], get_or}
-use Rattle.std.specs.List.{flat_map, range_with_len}
+use Rattle.std.proofs.Common.{◌≡◌, subst, ◌∙◌, List, ℕ, [], get_or}
 use Rattle.std.proofs.lemmas.List.{get_or_default}
 use Rattle.std.proofs.lemmas.Result.{IfOk-weaker, IfErr-weaker}
 use Rattle.surge_io.specs.Pages.{Adds, AddsFront}
-use Rattle.surge_top.specs.Texts.{pipe_lines}
 use Rattle.surge_top.proofs.Heads.{lines_of_pipe}
 use Rattle.surge_top.proofs.texts.add_pipe.Goals as goal
 

@@ -1,6 +1,6 @@
-use Rattle.std.proofs.Common.{◌≡◌, ◌∷◌, ◌++◌, [], codes, arith}
+use Rattle.std.proofs.Common.{◌∷◌, codes, arith}
 use Rattle.std.proofs.lemmas.Grind.{common_steps}
-use Rattle.surge_top.specs.Texts.{range_text, count_text, label_of, spaced}
+use Rattle.surge_top.specs.Texts.{range_text, count_text, label_of}
 use Rattle.surge_top.proofs.Heads.{joined_spaced}
 use Rattle.surge_top.proofs.texts.range_line.Goals as goal
 

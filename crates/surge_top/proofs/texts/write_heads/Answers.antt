@@ -1,4 +1,4 @@
-use Rattle.std.proofs.Common.{rules, List, ℕ, ◌++◌, []}
+use Rattle.std.proofs.Common.{rules}
 use Rattle.std.proofs.lemmas.Result.{IfOk-weaker, IfErr-weaker}
 use Rattle.surge_top.specs.Texts.{heads_text, node_lines, places_lines}
 use Rattle.surge_top.proofs.Heads.{whole_text, front_first, front_second, front_last}
