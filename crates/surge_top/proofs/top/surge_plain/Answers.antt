@@ -1,7 +1,7 @@
-use Rattle.std.proofs.Common.{◌≡◌, ℕ, List, map, true, false, rules, ◌⊎◌, inl, inr, refl}
+use Rattle.std.proofs.Common.{◌≡◌, map, rules, ◌⊎◌}
 use Rattle.surge_io.specs.Bytes.{Appends, AppendsFront}
 use Rattle.surge_io.specs.Faults.{Rose}
-use Rattle.surge_top.specs.Answer.{Answer, answer_to, are_words}
+use Rattle.surge_top.specs.Answer.{answer_to}
 use Rattle.short_case.specs.ShortMesh.{verdict}
 use Rattle.surge_top.specs.Status.{number_of, IsAnswered}
 use Rattle.surge_top.specs.declared.status.Status.TheVariants.{WriteFault, Memory}
