@@ -1,5 +1,5 @@
 -- What follows of lines that break no rule.
-use Rattle.std.proofs.Common.{◌≡◌, ◌<◌, ◌≤◌, ℕ, suc, zero, ◌+◌, ◌-◌, ◌/◌, ◌%◌, ◌==◌, ◌&&◌, ◌||◌, not, nat_lt, nat_le, Bool, true, false, IsTrue, List, [], ◌∷◌, ◌++◌, length, take, drop, get_or, refl, sym, ap, ◌∙◌, subst, arith}
+use Rattle.std.proofs.Common.{◌≡◌, ◌<◌, ◌≤◌, ℕ, suc, ◌+◌, ◌-◌, ◌==◌, ◌&&◌, ◌||◌, not, nat_lt, nat_le, Bool, true, false, IsTrue, List, [], ◌∷◌, length, take, drop, refl, sym, ap, ◌∙◌, subst, arith}
 use Rattle.std.proofs.lemmas.List.{get_or-take, take-append-drop, length-take-le}
 use Rattle.std.proofs.lemmas.List.Folds.{list_any-append}
 use Rattle.std.proofs.lemmas.Bool.Decides.{nat_tests}
@@ -10,7 +10,7 @@ use Rattle.short_case.specs.declared.entry.Entry.{Entry}
 use Rattle.short_case.specs.declared.entry.Entry.TheVariants.{Heading, OpenHeading, Step, Steps, Reservoir, Junction, Pipe, Other}
 use Rattle.short_case.specs.Sets.{IsEmpty}
 use Rattle.short_case.specs.Right.{IsRight}
-use Rattle.short_case.specs.Short.{is_heading, is_in_place, names_unknown, is_pipe_in_place, is_divided, is_named, is_node_named, is_pipe, dt_of, dt_said, entry_at, breaks, line_rules}
+use Rattle.short_case.specs.Short.{is_in_place, names_unknown, is_divided, is_named, is_node_named, dt_of, dt_said, entry_at, breaks, line_rules}
 
 not_false : (b : Bool) → (IsTrue (not b) → ⊥) → b ≡ true
 not_false true h = refl

@@ -1,11 +1,10 @@
 -- How many lines, nodes and pipes a text of so many bytes has at most.
-use Rattle.std.proofs.Common.{◌≡◌, ◌≤◌, ◌==◌, ℕ, ◌+◌, suc, List, [], ◌∷◌, length, Option, Some, None, true, false, refl, sym, ap, ◌∙◌, arith}
+use Rattle.std.proofs.Common.{◌≡◌, ◌≤◌, ◌==◌, ℕ, ◌+◌, List, [], ◌∷◌, length, true, false, refl, arith}
 use Rattle.std.proofs.lemmas.List.Splits.{length-slice_split}
 use Rattle.std.proofs.lemmas.List.Sums.{count_by-le-length}
-use Rattle.std.specs.List.{cons_option, count_by, slice_split}
 use Rattle.case_model.specs.declared.cases.Node.{Node}
 use Rattle.short_case.specs.declared.entry.Entry.{Entry}
-use Rattle.short_case.specs.Entries.{entries, entries_of_parts, parts, line_entry, open_entry}
+use Rattle.short_case.specs.Entries.{entries, entries_of_parts, parts}
 use Rattle.short_case.specs.Short.{nodes_from, pipes_from, pipe_said, case_of}
 use Rattle.short_case.proofs.Listed.{nodes_few, cons_few}
 

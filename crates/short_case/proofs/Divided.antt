@@ -1,5 +1,5 @@
 -- Pipes in reaches, the count of places, and the ends of a node, one pipe more.
-use Rattle.std.proofs.Common.{get_or, take, drop, ◌≡◌, ◌≤◌, ◌==◌, ℕ, ◌+◌, ◌<◌, List, [], ◌∷◌, ◌++◌, length, Option, Some, None, Bool, true, false, refl, ap, ◌∙◌, sym, arith, add-one}
+use Rattle.std.proofs.Common.{get_or, take, drop, ◌≡◌, ◌≤◌, ◌==◌, ℕ, ◌+◌, ◌<◌, List, [], ◌∷◌, ◌++◌, length, Option, Some, None, Bool, true, false, refl, ap, ◌∙◌, sym, arith}
 use Rattle.std.specs.List.{cons_option, range_with_len}
 use Rattle.std.proofs.lemmas.List.FromFn.{map-range_with_len_more}
 use Rattle.std.proofs.Common.{map}
@@ -7,13 +7,12 @@ use Rattle.std.proofs.Common.{drop-cons, suc}
 use Rattle.std.proofs.lemmas.List.{take_more, length-take-le}
 use Rattle.case_model.specs.declared.cases.Pipe.{Pipe}
 use Rattle.case_model.specs.declared.meshes.End.{End}
-use Rattle.case_model.specs.declared.meshes.PipeMesh.{PipeMesh}
 use Rattle.std.proofs.Common.{unsigned_abs, ◌&&◌}
 use Rattle.std.proofs.lemmas.Bool.{lt-leb}
 use Rattle.std.proofs.Common.{nat_lt}
 use Rattle.std.specs.List.{list_all}
 use Rattle.case_model.specs.declared.cases.Case.{Case}
-use Rattle.short_case.specs.ShortMesh.{reach_count, pipe_meshes, places_from, ends_at, end_if, mesh_of, is_whole, has_ends}
+use Rattle.short_case.specs.ShortMesh.{reach_count, places_from, ends_at, end_if, mesh_of, is_whole, has_ends}
 
 -- places are never fewer than those before
 pub places_rise : (dt : ℕ) (base : ℕ) (ps : List Pipe) → base ≤ places_from dt base ps

@@ -1,7 +1,6 @@
 -- The case and the mesh of an accepted text fit what the law of a short case relies on.
-use Rattle.std.proofs.Common.{◌≡◌, ◌<◌, ◌≤◌, ◌^◌, ℕ, suc, zero, ℤ, pos, ◌≤ℤ◌, unsigned_abs, ◌+◌, ◌-◌, ◌/◌, ◌%◌, ◌==◌, ◌&&◌, ◌||◌, not, nat_lt, nat_le, Bool, true, false, IsTrue, List, [], ◌∷◌, ◌++◌, length, map, get_or, Option, Some, None, refl, sym, ap, ◌∙◌, subst, arith, rules, eq-eqb}
+use Rattle.std.proofs.Common.{◌≡◌, ◌<◌, ◌≤◌, ℕ, suc, zero, pos, unsigned_abs, ◌+◌, ◌/◌, ◌%◌, ◌==◌, ◌&&◌, ◌||◌, nat_lt, nat_le, Bool, true, false, List, [], ◌∷◌, length, map, get_or, Option, Some, None, refl, ap, subst, arith, rules, eq-eqb}
 use Rattle.std.proofs.lemmas.List.FromFn.{get_or-map-range_with_len, length-map-range_with_len}
-use Rattle.std.proofs.lemmas.List.Folds.{list_all_at, list_any_at}
 use Rattle.std.proofs.lemmas.List.Sums.{fails_before_first}
 use Rattle.std.proofs.lemmas.Bool.Decides.{nat_tests}
 use Rattle.std.specs.List.{list_any, list_all, AllByRecursion, cons_option, position_or_len, range_with_len}
@@ -20,10 +19,10 @@ use Rattle.short_case.specs.declared.entry.Entry.TheVariants.{Heading, OpenHeadi
 use Rattle.short_case.specs.Sound.{IsSound}
 use Rattle.short_case.specs.Right.{IsRight}
 use Rattle.short_case.specs.Sets.{IsEmpty}
-use Rattle.short_case.specs.Short.{is_divided, dt_of, node, node_said, nodes_from, node_index, is_node_named, pipe_said, pipes_from, case_of, line_rules}
-use Rattle.short_case.specs.ShortMesh.{reach_count, pipe_meshes, places_from, ends_at, end_if, mesh_of, has_ends, is_whole}
+use Rattle.short_case.specs.Short.{is_divided, dt_of, node, nodes_from, node_index, is_node_named, pipes_from, case_of, line_rules}
+use Rattle.short_case.specs.ShortMesh.{reach_count, pipe_meshes, ends_at, end_if, mesh_of, has_ends, is_whole}
 use Rattle.short_law.specs.Laws.{IsComputable, start_head, node_at, pipe_at, no_node, no_pipe, impedance}
-use Rattle.short_case.proofs.Accepted.{all_right, and_left, and_right, or_left, or_right}
+use Rattle.short_case.proofs.Accepted.{all_right, and_left, and_right, or_right}
 
 pub at_index : {X : Type 0} (P : X → Type 0) (xs : List X) (d : X) → P d → AllByRecursion P xs → (k : ℕ) → P (get_or xs k d)
 at_index P [] d p h k = p

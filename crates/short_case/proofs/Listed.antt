@@ -1,9 +1,8 @@
 -- The nodes and pipes of one more line.
 use Rattle.std.proofs.lemmas.List.{take_more, length-take-le}
-use Rattle.std.proofs.Common.{get_or, take, ◌≤◌, ◌≡◌, ℕ, ◌+◌, ◌<◌, List, [], ◌∷◌, ◌++◌, length, Option, Some, None, refl, ap, ◌∙◌, sym, arith, add-one}
+use Rattle.std.proofs.Common.{get_or, take, ◌≤◌, ◌≡◌, ℕ, ◌+◌, ◌<◌, List, [], ◌∷◌, ◌++◌, length, Option, Some, None, refl, ap, ◌∙◌, sym, arith}
 use Rattle.std.specs.List.{cons_option}
 use Rattle.case_model.specs.declared.cases.Node.{Node}
-use Rattle.case_model.specs.declared.cases.Pipe.{Pipe}
 use Rattle.short_case.specs.declared.entry.Entry.{Entry}
 use Rattle.short_case.specs.Short.{node_said, nodes_from, pipe_said, pipes_from}
 

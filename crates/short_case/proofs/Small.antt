@@ -1,5 +1,5 @@
 -- An accepted case is as small as the limits of the short case say.
-use Rattle.std.proofs.Common.{◌≡◌, ◌≤◌, ℕ, suc, zero, ◌+◌, ◌&&◌, nat_lt, nat_le, true, List, [], ◌∷◌, length, take, unsigned_abs, pos, refl, sym, ap, ◌∙◌, arith}
+use Rattle.std.proofs.Common.{◌≡◌, ◌≤◌, ℕ, ◌+◌, ◌&&◌, nat_lt, nat_le, true, List, [], ◌∷◌, length, take, unsigned_abs, pos, ap, arith}
 use Rattle.std.proofs.Math.Seq.{take-length}
 use Rattle.std.proofs.lemmas.Bool.Decides.{nat_tests}
 use Rattle.std.specs.List.{AllByRecursion, sum_by, list_all}

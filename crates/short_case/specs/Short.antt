@@ -6,12 +6,8 @@ use Rattle.case_model.specs.declared.cases.Case.{Case}
 use Rattle.case_model.specs.declared.cases.Node.{Node}
 use Rattle.case_model.specs.declared.cases.NodeKind.{NodeKind}
 use Rattle.case_model.specs.declared.cases.NodeKind.TheVariants.{Reservoir as ReservoirKind, Junction as JunctionKind}
-use Rattle.case_model.specs.declared.cases.Value.{Value}
 use Rattle.case_model.specs.declared.cases.Value.TheVariants.{Fixed}
 use Rattle.case_model.specs.declared.cases.Pipe.{Pipe}
-use Rattle.case_model.specs.declared.meshes.End.{End}
-use Rattle.case_model.specs.declared.meshes.PipeMesh.{PipeMesh}
-use Rattle.case_model.specs.declared.meshes.Mesh.{Mesh}
 use Rattle.short_case.specs.declared.entry.Entry.{Entry}
 use Rattle.short_case.specs.declared.entry.Entry.TheVariants.{Heading, OpenHeading, Step, Steps, Reservoir, Junction, Pipe as PipeLine, Other}
 use Rattle.short_case.specs.Sets.{Rules}

@@ -1,5 +1,5 @@
 -- The mesh of a short case, and what its text means as a whole.
-use Rattle.std.specs.Prelude.{ℕ, ◌+◌, ◌/◌, ◌==◌, ◌&&◌, nat_lt, nat_le, Bool, true, false, ℤ, pos, unsigned_abs, Option, Some, None, Result, Ok, Err, if◌then◌else◌, List, [], ◌∷◌, length, map}
+use Rattle.std.specs.Prelude.{ℕ, ◌+◌, ◌/◌, ◌==◌, ◌&&◌, nat_lt, nat_le, Bool, true, false, pos, unsigned_abs, Option, Some, None, Result, Ok, Err, if◌then◌else◌, List, [], ◌∷◌, length, map}
 use Rattle.std.specs.List.{list_all, range_with_len, cons_option}
 use Rattle.case_model.specs.declared.cases.Case.{Case}
 use Rattle.case_model.specs.declared.cases.Pipe.{Pipe}

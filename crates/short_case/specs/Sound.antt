@@ -1,5 +1,5 @@
 -- Lines whose numbers are within their limits.
-use Rattle.std.specs.Prelude.{ℕ, ◌≤◌, unsigned_abs}
+use Rattle.std.specs.Prelude.{◌≤◌, unsigned_abs}
 use Rattle.short_case.specs.declared.entry.Entry.{Entry}
 use Rattle.short_case.specs.declared.entry.Entry.TheVariants.{Heading, OpenHeading, Step, Steps, Reservoir, Junction, Pipe, Other}
 

@@ -1,4 +1,4 @@
-use Rattle.std.proofs.Common.{◌≡◌, ◌≤◌, length, arith, ap}
+use Rattle.std.proofs.Common.{◌≡◌, arith}
 use Rattle.short_case.specs.Short.{nodes_from}
 use Rattle.short_case.proofs.Listed.{nodes_few}
 use Rattle.short_case.proofs.building.case_of.Goals as goal

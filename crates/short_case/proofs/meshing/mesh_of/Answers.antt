@@ -1,5 +1,4 @@
-use Rattle.std.proofs.Common.{◌≡◌, ◌<◌, length, unsigned_abs, arith, to_z-of_z}
-use Rattle.short_case.specs.ShortMesh.{places_from}
+use Rattle.std.proofs.Common.{◌≡◌, unsigned_abs, arith, to_z-of_z}
 use Rattle.short_case.proofs.Divided.{too_many}
 use Rattle.short_case.proofs.meshing.mesh_of.Goals as goal
 

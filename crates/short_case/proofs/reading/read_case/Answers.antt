@@ -1,10 +1,9 @@
-use Rattle.std.proofs.Common.{◌≡◌, ◌≤◌, length, true, arith, ap, sym, subst}
+use Rattle.std.proofs.Common.{◌≡◌, true, arith, subst}
 use Rattle.std.specs.List.{AllByRecursion}
 use Rattle.short_case.specs.Entries.{entries}
 use Rattle.short_case.specs.Sound.{IsSound}
 use Rattle.short_case.specs.Short.{case_of}
 use Rattle.short_case.specs.ShortMesh.{mesh_of, is_whole}
-use Rattle.short_law.specs.Laws.{IsComputable}
 use Rattle.short_case.proofs.Counted.{entries_few, case_nodes_few, case_pipes_few}
 use Rattle.short_case.proofs.Fits.{computable}
 use Rattle.short_case.proofs.Small.{small}
