@@ -41,7 +41,7 @@ pub fn compute<L: Law>(
     Ok(run_steps(law, mesh, &joints, last, own, old, given, new))
 }
 
-/// Steps from row 0, in `own` and `old`, to the last step, or to the first row with a Bad place.
+/// Steps from the initial row, in `own` and `old`, to the last step, or to the first row with a Bad place.
 /// Takes no memory: `given` and `new` are room for what a step makes.
 fn run_steps<L: Law>(
     law: &L,
