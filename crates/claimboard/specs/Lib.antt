@@ -1,0 +1,6 @@
+pub mod Answers
+pub mod Board
+pub mod Items
+pub mod Laws
+pub mod Steps
+pub mod Views
