@@ -1,6 +1,7 @@
-ghost use Rattle.std.specs.Prelude.{◌≡◌, ℕ, ◌+◌, ◌<◌, ◌≤◌, false, [], length, map, slice_index_or, Some, None, IfOk, All};
+ghost use Rattle.std.specs.Prelude.{◌≡◌, ◌<◌, ◌≤◌, false, length, map, Some, None, IfOk, All};
 ghost use Rattle.claimboard.specs.Items.{AreItems};
-ghost use Rattle.claimboard.specs.Views.{view, IsOf, fresh_view, dealt_or_0};
+ghost use Rattle.claimboard.specs.Seats.{AreFresh};
+ghost use Rattle.claimboard.specs.Views.{view, IsOf};
 
 use crate::board::Board;
 use crate::items::Item;
@@ -28,7 +29,7 @@ impl<T: Item> Board<T> {
         ensures tag { IfOk result (λ t. t.0.table.shared.key.value ≡ tag) }
         ensures count { IfOk result (λ t. length t.1.items ≡ seats) }
         ensures seats { IfOk result (λ t. All (λ s. IsOf t.0.table.shared.table_id tag s.seat × ((view s.seat).item ≡ None)) t.1.items) }
-        ensures fresh { IfOk result (λ t. (k : ℕ) (d : BoardSeat) → k < length t.1.items → view (slice_index_or t.1.items k d).seat ≡ fresh_view tag k) }
+        ensures fresh { IfOk result (λ t. AreFresh tag t.1.items) }
     {
         let words = vec![in alloc; 0u64; items.len()]?;
         let slots = shelve(alloc, items)?;
@@ -62,7 +63,7 @@ fn deal_seats<T: Item>(
     requires deals { (view dealer.old).dealt ≡ Some 0 }
     ensures count { IfOk result (λ v. length v.items ≡ seats) }
     ensures seats { IfOk result (λ v. All (λ s. IsOf top.now.table_id top.now.key.value s.seat × ((view s.seat).item ≡ None)) v.items) }
-    ensures fresh { IfOk result (λ v. (k : ℕ) (d : BoardSeat) → k < length v.items → view (slice_index_or v.items k d).seat ≡ fresh_view top.now.key.value k) }
+    ensures fresh { IfOk result (λ v. AreFresh top.now.key.value v.items) }
 {
     let mut dealt = Vec::with_capacity(alloc, seats as usize)?;
     for number in 0..seats {
