@@ -1,5 +1,9 @@
 -- A board as it begins, the seats that are split off, and its items as it ends.
-use Rattle.std.proofs.Common.{◌≡◌, ◌≢◌, ℕ, zero, suc, ◌+◌, ◌<◌, Bool, true, false, List, [], ◌∷◌, ◌++◌, map, length, replicate, get_or, set, sym, refl, ap, ◌∙◌, subst, ⊎_elim, arith, Option, Some, None}
+use Rattle.std.proofs.Common.{◌≡◌, ℕ, zero, suc, ◌+◌, ◌<◌, Bool, true, false, List, [], ◌∷◌, ◌++◌, map, length, replicate, get_or, set, sym, refl, ap, ◌∙◌, subst, ⊎_elim, arith, Option, Some, None, get_or-set_other, get_or-set_same, length-append}
+use Rattle.std.proofs.lemmas.List.{get_or_append_left, get_or_push}
+use Rattle.std.specs.Mem.Slots.Ownership.{Filled}
+use mathlib.Core.Logic.{dite}
+use native.Mathlib.Decide.{ℕ_discrete}
 use mathlib.Core.Option.{some, some-injective, some-ne-none}
 use lib.ListN.{get_elem?, length-map, length-replicate, get_or-replicate}
 use Rattle.atomic_table.specs.Table.{State, opening, Splits, Final, Seen}
@@ -7,9 +11,9 @@ use Rattle.atomic_table.proofs.Lists.{set_again, at_longer, at_map}
 use Rattle.claimboard.specs.declared.views.View.{View}
 use Rattle.claimboard.specs.Items.{IsItem, AreItems}
 use Rattle.claimboard.specs.Views.{Has, dealt_or_0, first_view}
-use Rattle.claimboard.specs.Board.{Names, ItemStands, SeatStands, OneBoard}
+use Rattle.claimboard.specs.Board.{SeatStands, OneBoard}
 use Rattle.claimboard.specs.Steps.{dealing, dealt_view, copy_of}
-use Rattle.claimboard.proofs.Owners.{at_new, seats_split, put, put_here, put_else}
+use Rattle.claimboard.proofs.Owners.{at_one, at_new, seats_split, put, put_here, put_else}
 use Rattle.claimboard.proofs.Keeping.{holder_same, item_stays}
 
 some_is : (a b : ℕ) → (let p : Option ℕ = Some a in let q : Option ℕ = Some b in p ≡ q) → b ≡ a
@@ -33,6 +37,15 @@ module _ {A : Type 0} where
   read_at (x ∷ xs) zero a d e = some-injective x a e
   read_at (x ∷ xs) (suc i) a d e = read_at xs i a d e
 
+-- the first i places are empty, and the next is emptied
+pub full_rest : (fs : List Bool) (i high : ℕ) → Filled fs i high → Filled (set fs i false) (i + 1) high
+full_rest fs i high h k low l = get_or-set_other fs i k false false (λ e. omega (arith, e, low)) ∙ h k (omega (arith, low)) l
+
+pub emptied : (fs : List Bool) (i : ℕ) → i < length fs → ((k : ℕ) → k < i → get_or fs k false ≡ false) → (k : ℕ) → k < i + 1 → get_or (set fs i false) k false ≡ false
+emptied fs i lt h k l = dite (ℕ_discrete k i)
+    (λ e. ap (λ (q : ℕ). get_or (set fs i false) q false) e ∙ get_or-set_same fs i false false lt)
+    (λ ne. get_or-set_other fs i k false false ne ∙ h k (omega (arith, l, ne)))
+
 module _ {T G : Type 0} (number : T → ℕ) (finished : T → Bool) (good : G → T → Type 0) where
   abbrev St : Type 0
   St = State (Option T) (View G)
@@ -46,7 +59,7 @@ module _ {T G : Type 0} (number : T → ℕ) (finished : T → Bool) (good : G �
   starts tag xs ws slots words_are slots_are items =
       let long : length ws ≡ length xs = ap length words_are ∙ length-replicate (length xs) 0 in
       let wide : length (map {A = Option T} some slots) ≡ length xs = length-map slots some ∙ ap length slots_are ∙ length-map xs Some in
-      let word : (i : ℕ) → i < length xs → get_or ws i 0 ≡ 0 = λ i l. ap (λ (q : List ℕ). get_or q i 0) words_are ∙ get_or-replicate (length xs) 0 i 0 l in
+      let word : (i : ℕ) → i < length xs → get_or ws i 0 ≡ 0 = λ i l. ap (λ (q : List ℕ). get_or q i 0) words_are ∙ get_or-replicate (length xs) i 0 0 l in
       record {
         dealt = 0;
         dealer = 0;
@@ -149,6 +162,19 @@ module _ {T G : Type 0} (number : T → ℕ) (finished : T → Bool) (good : G �
           })
           (at_new s.views copy w j e);
       }
+
+  -- a list of items in their places, and the next one
+  pub items_more : (tag : G) (is : Bool) (xs : List T) (x : T) → AreItems number finished good tag is xs → IsItem number finished good tag (length xs) is x → AreItems number finished good tag is (xs ++ x ∷ [])
+  items_more tag is xs x all next i d l = dite (ℕ_discrete i (length xs))
+      (λ e. subst (IsItem number finished good tag i is) (sym (get_or_push xs x d i (sym e))) (subst (λ (q : ℕ). IsItem number finished good tag q is x) (sym e) next))
+      (λ ne. let lt : i < length xs = omega (arith, l, ne, length-append xs (x ∷ [])) in subst (IsItem number finished good tag i is) (sym (get_or_append_left xs (x ∷ []) d i lt)) (all i d lt))
+
+  -- what was taken from a place is the item that lay there
+  pub taken_is : (tag : G) (is : Bool) (xs : List (Option T)) (i : ℕ) (o : Option T) (x y : T) → get_elem? xs i ≡ some (Some x) → get_elem? xs i ≡ some o → o ≡ Some y → IsItem number finished good tag i is x → IsItem number finished good tag i is y
+  taken_is tag is xs i o x y at_x at_o same = subst (IsItem number finished good tag i is) (inside (at_one xs i i (Some x) o refl at_x at_o ∙ same))
+    where
+      inside : (let p : Option T = Some x in p ≡ Some y) → x ≡ y
+      inside e = cc
 
   -- where a seat knows of each item that it is finished, each lies in its place
   pub ends : (tag : G) (id : ℕ) (v : View G) (ws : List ℕ) (xs : List (Option T)) → Final (Seen (Rule tag) id v) ws xs → (i : ℕ) → Has i v.finished

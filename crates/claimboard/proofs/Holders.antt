@@ -1,12 +1,8 @@
 -- An item has one holder, and what is finished has none.
-use Rattle.std.proofs.Common.{◌≡◌, ◌≢◌, ℕ, ◌+◌, ◌<◌, Bool, List, get_or, sym, refl, ap, ◌∙◌, arith, Option, Some, None}
-use mathlib.Core.Option.{some}
-use lib.ListN.{get_elem?}
-use Rattle.atomic_table.specs.Table.{State}
+use Rattle.std.proofs.Common.{◌≡◌, ◌≢◌, ℕ, ◌+◌, Bool, List, get_or, sym, refl, ap, ◌∙◌, arith, Option, Some, None}
 use Rattle.claimboard.specs.declared.views.View.{View}
-use Rattle.claimboard.specs.Board.{SeatStands, OneBoard}
+use Rattle.claimboard.specs.Board.{SeatStands}
 use Rattle.claimboard.specs.Laws.{OneHolder, NumbersDiffer, FinishedIsHeldByNone}
-use Rattle.claimboard.specs.Views.{Has}
 
 module _ {T G : Type 0} (number : T → ℕ) (finished : T → Bool) (good : G → T → Type 0) where
   -- a seat that names an item has a number, which the item's word holds

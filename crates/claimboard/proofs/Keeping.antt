@@ -1,5 +1,5 @@
 -- What stays true of one item, and of one seat, over a step.
-use Rattle.std.proofs.Common.{◌≡◌, ◌≢◌, ℕ, ◌+◌, ◌<◌, Bool, true, false, List, length, get_or, set, sym, refl, ap, ◌∙◌, arith, Option, Some, None}
+use Rattle.std.proofs.Common.{◌≡◌, ◌≢◌, ℕ, ◌+◌, ◌<◌, Bool, List, length, get_or, set, sym, ap, ◌∙◌, arith, Option, Some}
 use mathlib.Core.Logic.{dite}
 use mathlib.Core.Option.{some, none}
 use mathlib.Core.Option as maybe
@@ -8,7 +8,6 @@ use lib.ListN.{get_elem?}
 use Rattle.atomic_table.specs.Table.{State}
 use Rattle.atomic_table.proofs.Lists.{set_here, set_else}
 use Rattle.claimboard.specs.declared.views.View.{View}
-use Rattle.claimboard.specs.Views.{Has}
 use Rattle.claimboard.specs.Board.{Names, ItemStands, SeatStands, OneBoard}
 use Rattle.claimboard.proofs.Owners.{within, at_one, seats_stay}
 

@@ -1,5 +1,5 @@
 -- Each step of a board keeps its rule.
-use Rattle.std.proofs.Common.{◌≡◌, ◌≢◌, ℕ, zero, suc, ◌+◌, ◌<◌, eqb, Bool, true, false, List, [], ◌∷◌, ◌++◌, map, length, replicate, get_or, set, sym, refl, ap, ◌∙◌, subst, ⊎_elim, arith, Option, Some, None, length-set, get_or-set_other, get_or-set_same}
+use Rattle.std.proofs.Common.{◌≡◌, ◌≢◌, ℕ, zero, suc, ◌+◌, ◌<◌, eqb, Bool, true, false, List, [], ◌∷◌, length, get_or, set, sym, refl, ap, ◌∙◌, subst, ⊎_elim, arith, Option, Some, None, length-set, get_or-set_other, get_or-set_same}
 use mathlib.Core.Logic.{dite}
 use mathlib.Core.Option.{some, none}
 use mathlib.Core.Option as maybe
@@ -7,13 +7,13 @@ use native.Mathlib.Decide.{ℕ_discrete}
 use lib.ListN.{get_elem?}
 use lib.Seq.{set-get_or}
 use prog.Atomic.{either}
-use Rattle.atomic_table.specs.Table.{State, Me, step, Act, keeps, takes, gives, stepped, homes_after, carried_after, Valid, Allows, Splits, rest}
-use Rattle.atomic_table.proofs.Lists.{set_here, set_else, set_again, at_longer, exchanged}
+use Rattle.atomic_table.specs.Table.{State, Me, step, Act, keeps, takes, gives, stepped, carried_after, Valid, Allows, rest}
+use Rattle.atomic_table.proofs.Lists.{set_here, set_else, exchanged}
 use Rattle.claimboard.specs.declared.views.View.{View}
 use Rattle.claimboard.specs.Items.{IsItem}
-use Rattle.claimboard.specs.Views.{Has, found_view, holding, IsOthers, with_found}
-use Rattle.claimboard.specs.Board.{Names, Lies, ItemStands, SeatStands, OneBoard}
-use Rattle.claimboard.specs.Steps.{peeked, claimed, stored, Wins}
+use Rattle.claimboard.specs.Views.{Has, found_view, holding, IsOthers}
+use Rattle.claimboard.specs.Board.{OneBoard}
+use Rattle.claimboard.specs.Steps.{peeked, claimed, stored}
 use Rattle.claimboard.proofs.Owners.{within, at_one, found_more}
 use Rattle.claimboard.proofs.Keeping.{holder_else, holder_same, item_stays, seat_stays, after_step}
 

@@ -1,6 +1,5 @@
 -- What the answers of the calls say.
-use Rattle.std.specs.Prelude.{◌≡◌, ◌≢◌, ℕ, ◌<◌, Bool, false, Option, Some, None, List, length, slice_index_or}
-use Rattle.atomic_table.specs.Seated.{TableId}
+use Rattle.std.specs.Prelude.{◌≡◌, ℕ, Bool, false, Some, None}
 use Rattle.claimboard.specs.declared.claims.Claim.{Claim}
 use Rattle.claimboard.specs.declared.claims.Claim.TheVariants.{Held, Busy, Finished}
 use Rattle.claimboard.specs.declared.views.View.{View}

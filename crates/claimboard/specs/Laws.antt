@@ -1,11 +1,11 @@
 -- What the rule says of any two seats, and of what is finished.
-use Rattle.std.specs.Prelude.{◌≡◌, ◌≢◌, ℕ, ◌<◌, Bool, slice_index, Option, Some}
+use Rattle.std.specs.Prelude.{◌≡◌, ◌≢◌, ℕ, Bool, Option, Some}
 use mathlib.Core.Option.{some}
 use lib.ListN.{get_elem?}
 use Rattle.atomic_table.specs.Table.{State}
 use Rattle.claimboard.specs.declared.views.View.{View}
 use Rattle.claimboard.specs.Board.{OneBoard}
-use Rattle.claimboard.specs.Views.{Has, finished_word}
+use Rattle.claimboard.specs.Views.{Has}
 
 module _ {T G : Type 0} (number : T → ℕ) (finished : T → Bool) (good : G → T → Type 0) where
   -- two seats that name one item are one seat

@@ -1,5 +1,5 @@
 -- The six kinds of step, and the splitting of a seat. `m` is the seat before the step and `m'` after it, each a view and the slots in hand; `n` is the word found.
-use Rattle.std.specs.Prelude.{◌≡◌, ◌≢◌, ℕ, ◌+◌, Bool, false, List, [], ◌∷◌, Option, Some, None}
+use Rattle.std.specs.Prelude.{◌≡◌, ◌≢◌, ℕ, ◌+◌, Bool, false, [], ◌∷◌, Option, Some, None}
 use Rattle.atomic_table.specs.Table.{Me, Step}
 use Rattle.claimboard.specs.declared.views.View.{View}
 use Rattle.claimboard.specs.Items.{IsItem}
