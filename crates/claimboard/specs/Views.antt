@@ -66,9 +66,13 @@ module _ {T G : Type 0} where
   abbrev pub IsOf : TableId → G → Seat (Option T) (View G) → Type 0
   IsOf id tag s = (s.table_id ≡ id) × ((view s).tag ≡ tag)
 
-  -- the same seat of the same board, with its number
+  -- such a seat that holds no item
+  abbrev pub IsReady : TableId → G → Seat (Option T) (View G) → Type 0
+  IsReady id tag s = IsOf id tag s × ((view s).item ≡ None)
+
+  -- the same seat, with its number
   abbrev pub IsSameSeat : Seat (Option T) (View G) → Seat (Option T) (View G) → Type 0
-  IsSameSeat s t = (t.table_id ≡ s.table_id) × (t.id ≡ s.id) × ((view t).number ≡ (view s).number) × ((view t).tag ≡ (view s).tag)
+  IsSameSeat s t = (t.id ≡ s.id) × ((view t).number ≡ (view s).number)
 
   -- the seat knows of each item that it is finished
   abbrev pub KnowsAll : TableId → Seat (Option T) (View G) → Type 0

@@ -23,3 +23,6 @@ pub use laws::one_holder;
 pub use rule::Rule;
 pub use seats::{BoardSeat, Done};
 pub use views::View;
+
+#[cfg(test)]
+mod tests;

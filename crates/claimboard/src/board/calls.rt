@@ -17,6 +17,7 @@ impl<T: Item> Board<T> {
         requires seat { IsOf self.now.table.shared.table_id self.now.table.shared.key.value seat.old.seat }
         requires on_board { number < self.now.table.shared.table_id.slots }
         requires empty_handed { (view seat.old.seat).item ≡ None }
+        ensures seat { IsOf self.now.table.shared.table_id self.now.table.shared.key.value seat.new.seat }
         ensures same { IsSameSeat seat.old.seat seat.new.seat }
         ensures found { view seat.new.seat ≡ found_view (view seat.old.seat) number (view seat.new.seat).found_word (view seat.new.seat).item }
         ensures answer { Answers T.number_of T.is_finished T.is_good self.now.table.shared.key.value number result (view seat.new.seat) }
@@ -40,6 +41,7 @@ impl<T: Item> Board<T> {
         requires held { (view seat.old.seat).item ≡ Some (T.number_of item) }
         requires good { T.is_good self.now.table.shared.key.value item }
         requires not_finished { T.is_finished item ≡ false }
+        ensures seat { IsOf self.now.table.shared.table_id self.now.table.shared.key.value seat.new.seat }
         ensures same { IsSameSeat seat.old.seat seat.new.seat }
         ensures view { view seat.new.seat ≡ holding (view seat.old.seat) None }
     {
@@ -56,6 +58,7 @@ impl<T: Item> Board<T> {
         requires held { (view seat.old.seat).item ≡ Some (T.number_of item) }
         requires good { T.is_good self.now.table.shared.key.value item }
         requires finished { T.is_finished item ≡ true }
+        ensures seat { IsOf self.now.table.shared.table_id self.now.table.shared.key.value seat.new.seat }
         ensures same { IsSameSeat seat.old.seat seat.new.seat }
         ensures view { view seat.new.seat ≡ holding (view seat.old.seat) None }
     {
@@ -69,6 +72,7 @@ impl<T: Item> Board<T> {
     /// last, in this call, wasn't.
     pub fn all_finished(&self, seat: &mut BoardSeat<T>) -> Option<Done<T>>
         requires { IsOf self.now.table.shared.table_id self.now.table.shared.key.value seat.old.seat }
+        ensures seat { IsOf self.now.table.shared.table_id self.now.table.shared.key.value seat.new.seat }
         ensures same { IsSameSeat seat.old.seat seat.new.seat }
         ensures only_loaded { OnlyLoaded (view seat.old.seat) (view seat.new.seat) }
         ensures none { IfNone result (((view seat.new.seat).found_word ≢ finished_word) × ((view seat.old.seat).loads < (view seat.new.seat).loads)) }
