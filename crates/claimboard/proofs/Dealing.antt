@@ -66,15 +66,18 @@ module _ {T G : Type 0} (number : T → ℕ) (finished : T → Bool) (good : G �
         seat_of = λ n. 0;
         a_slot_each = long ∙ sym wide;
         each_item = λ i l.
-          let lt : i < length xs = omega (arith, l, long) in
-          let is = word i lt in
-          let x = value_at xs i lt in
-          record {
-            free = λ e. (x.0, ap (λ (q : List (Option T)). get_elem? (map some q) i) slots_are ∙ at_map some (map Some xs) i (Some x.0) (at_map Some xs i x.0 x.1),
-              subst (IsItem number finished good tag i false) (read_at xs i x.0 x.0 x.1) (items i x.0 lt));
-            done = λ e. absurd (omega (arith, is, e));
-            held = λ n e. absurd (omega (arith, is, e));
-          };
+            let lt : i < length xs = omega (arith, l, long) in
+            let is = word i lt in
+            let x = value_at xs i lt in
+            record {
+              free = λ e. (
+                x.0,
+                ap (λ (q : List (Option T)). get_elem? (map some q) i) slots_are ∙ at_map some (map Some xs) i (Some x.0) (at_map Some xs i x.0 x.1),
+                subst (IsItem number finished good tag i false) (read_at xs i x.0 x.0 x.1) (items i x.0 lt),
+              );
+              done = λ e. absurd (omega (arith, is, e));
+              held = λ n e. absurd (omega (arith, is, e));
+            };
         each_seat = one;
       }
     where
@@ -107,35 +110,35 @@ module _ {T G : Type 0} (number : T → ℕ) (finished : T → Bool) (good : G �
         seat_of = of;
         a_slot_each = r.a_slot_each;
         each_item = λ i l. item_stays number finished good tag r.seat_of of s.homes s.homes s.views vs i (get_or s.words i 0) (get_or s.words i 0) refl refl
-          (λ n h.
+            (λ n h.
             let k = holder_same number finished good r.seat_of s.views id v left i at refl refl n h in
             (k.0, ap (get_elem? vs) (old_of n ((r.each_seat (r.seat_of n) h.0 h.1).numbered n h.2).0) ∙ at_longer (set s.views id left) (right ∷ []) (r.seat_of n) k.0 k.1, k.2, k.3))
-          (r.each_item i l);
+            (r.each_item i l);
         each_seat = seats_split (SeatStands tag (r.dealt + 1) r.dealer of s.words) s.views id left right
-          record {
-            same_tag = ok.same_tag;
-            numbered = λ n e. let t = ok.numbered n e in (omega (arith, t.0), t.1 ∙ sym (old_of n t.0));
-            bare = ok.bare;
-            names = ok.names;
-            finished_items = ok.finished_items;
-            deals = λ k e. let h : k ≡ dealt_or_0 v.dealt + 1 = some_is (dealt_or_0 v.dealt + 1) k e in (omega (arith, h, next), mine.1);
-          }
-          record {
-            same_tag = ok.same_tag;
-            numbered = λ n e. let h : n ≡ r.dealt = some_is (dealt_or_0 v.dealt) n e ∙ next in (omega (arith, h), sym (ap of h ∙ put_here r.seat_of r.dealt count));
-            bare = λ e. refl;
-            names = λ i n a b. absurd (none_is_some i a);
-            finished_items = λ i h. absurd (none_found i h);
-            deals = λ k e. absurd (none_is_some k e);
-          }
-          (λ j w other e. let t = r.each_seat j w e in record {
-            same_tag = t.same_tag;
-            numbered = λ n h. let q = t.numbered n h in (omega (arith, q.0), q.1 ∙ sym (old_of n q.0));
-            bare = t.bare;
-            names = t.names;
-            finished_items = t.finished_items;
-            deals = λ k h. absurd (other ((t.deals k h).1 ∙ sym mine.1));
-          });
+            record {
+              same_tag = ok.same_tag;
+              numbered = λ n e. let t = ok.numbered n e in (omega (arith, t.0), t.1 ∙ sym (old_of n t.0));
+              bare = ok.bare;
+              names = ok.names;
+              finished_items = ok.finished_items;
+              deals = λ k e. let h : k ≡ dealt_or_0 v.dealt + 1 = some_is (dealt_or_0 v.dealt + 1) k e in (omega (arith, h, next), mine.1);
+            }
+            record {
+              same_tag = ok.same_tag;
+              numbered = λ n e. let h : n ≡ r.dealt = some_is (dealt_or_0 v.dealt) n e ∙ next in (omega (arith, h), sym (ap of h ∙ put_here r.seat_of r.dealt count));
+              bare = λ e. refl;
+              names = λ i n a b. absurd (none_is_some i a);
+              finished_items = λ i h. absurd (none_found i h);
+              deals = λ k e. absurd (none_is_some k e);
+            }
+            (λ j w other e. let t = r.each_seat j w e in record {
+              same_tag = t.same_tag;
+              numbered = λ n h. let q = t.numbered n h in (omega (arith, q.0), q.1 ∙ sym (old_of n q.0));
+              bare = t.bare;
+              names = t.names;
+              finished_items = t.finished_items;
+              deals = λ k h. absurd (other ((t.deals k h).1 ∙ sym mine.1));
+            });
       }
 
   -- a copy of what the seat knows to be finished is split off
@@ -150,17 +153,17 @@ module _ {T G : Type 0} (number : T → ℕ) (finished : T → Bool) (good : G �
         seat_of = r.seat_of;
         a_slot_each = r.a_slot_each;
         each_item = λ i l. item_stays number finished good tag r.seat_of r.seat_of s.homes s.homes s.views (s.views ++ copy ∷ []) i (get_or s.words i 0) (get_or s.words i 0) refl refl
-          (λ n h. (h.0, at_longer s.views (copy ∷ []) (r.seat_of n) h.0 h.1, h.2, h.3)) (r.each_item i l);
+            (λ n h. (h.0, at_longer s.views (copy ∷ []) (r.seat_of n) h.0 h.1, h.2, h.3)) (r.each_item i l);
         each_seat = λ j w e. ⊎_elim (r.each_seat j w)
-          (λ (t : (j ≡ length s.views) × (copy ≡ w)). subst (SeatStands tag r.dealt r.dealer r.seat_of s.words j) t.1 record {
-            same_tag = ok.same_tag;
-            numbered = λ n h. absurd (none_is_some n h);
-            bare = λ h. refl;
-            names = λ i n a b. absurd (none_is_some i a);
-            finished_items = ok.finished_items;
-            deals = λ k h. absurd (none_is_some k h);
-          })
-          (at_new s.views copy w j e);
+            (λ (t : (j ≡ length s.views) × (copy ≡ w)). subst (SeatStands tag r.dealt r.dealer r.seat_of s.words j) t.1 record {
+              same_tag = ok.same_tag;
+              numbered = λ n h. absurd (none_is_some n h);
+              bare = λ h. refl;
+              names = λ i n a b. absurd (none_is_some i a);
+              finished_items = ok.finished_items;
+              deals = λ k h. absurd (none_is_some k h);
+            })
+            (at_new s.views copy w j e);
       }
 
   -- a list of items in their places, and the next one

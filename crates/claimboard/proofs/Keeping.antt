@@ -29,7 +29,7 @@ module _ {T G : Type 0} (number : T → ℕ) (finished : T → Bool) (good : G �
       → (n : ℕ) → Names seat_of views j n → Names seat_of (set views id w) j n
   holder_same seat_of views id d w j at num it n h = dite (ℕ_discrete (seat_of n) id)
       (λ same. let is : d ≡ h.0 = at_one views id (seat_of n) d h.0 (sym same) at h.1 in
-        (w, ap (get_elem? (set views id w)) same ∙ set_here views id w (within views id d at), num ∙ ap (λ (v : View G). v.number) is ∙ h.2, it ∙ ap (λ (v : View G). v.item) is ∙ h.3))
+      (w, ap (get_elem? (set views id w)) same ∙ set_here views id w (within views id d at), num ∙ ap (λ (v : View G). v.number) is ∙ h.2, it ∙ ap (λ (v : View G). v.item) is ∙ h.3))
       (λ other. (h.0, set_else views id (seat_of n) w other ∙ h.1, h.2, h.3))
 
   -- an item whose word, slot and holder a step does not touch

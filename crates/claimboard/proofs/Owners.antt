@@ -73,8 +73,8 @@ found_more xs i n k = dite (ℕ_discrete n 1)
 pub found_stays : (xs : List ℕ) (i n k : ℕ) → Has k xs → Has k (with_found xs i n)
 found_stays xs i n k h = dite (ℕ_discrete n 1)
     (λ e. subst (λ (b : Bool). Has k (cond b (i ∷ xs) xs)) (sym (eq-eqb n 1 e)) (dite (ℕ_discrete i k)
-        (λ same. subst (λ (b : Bool). cond b true (has k xs) ≡ true) (sym (eq-eqb i k same)) refl)
-        (λ other. subst (λ (b : Bool). cond b true (has k xs) ≡ true) (sym (ne_eqb i k other)) h)))
+    (λ same. subst (λ (b : Bool). cond b true (has k xs) ≡ true) (sym (eq-eqb i k same)) refl)
+    (λ other. subst (λ (b : Bool). cond b true (has k xs) ≡ true) (sym (ne_eqb i k other)) h)))
     (λ ne. subst (λ (b : Bool). Has k (cond b (i ∷ xs) xs)) (sym (ne_eqb n 1 ne)) h)
 
 -- what was found finished now is in the list

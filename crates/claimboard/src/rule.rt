@@ -19,7 +19,12 @@ impl<T: Item> TableRule<Option<T>, View<T::Tag>, Snapshot<T::Tag>> for Rule<T> {
 }
 
 /// The table as threads see it.
-pub(crate) type Top<T> = Shared<Option<T>, View<<T as Item>::Tag>, Snapshot<<T as Item>::Tag>, Rule<T>>;
+pub(crate) type Top<T> = Shared<
+    Option<T>,
+    View<<T as Item>::Tag>,
+    Snapshot<<T as Item>::Tag>,
+    Rule<T>,
+>;
 
 /// A seat at the table.
 pub(crate) type Place<T> = Seat<Option<T>, View<<T as Item>::Tag>>;

@@ -7,7 +7,9 @@ use crate::claims::Claim;
 use crate::items::Item;
 use crate::rule::{Place, Top};
 use crate::seats::{BoardSeat, Done};
-use crate::steps::{Copy, FINISHED, FREE, Finish, Free, HELD, Peek, Take, put_in, take_out};
+use crate::steps::{
+    CopyKnown, FINISHED, FREE, free, mark_finished, peek, put_in, take_out, try_take,
+};
 
 impl<T: Item> Board<T> {
     /// Claims the item of a number for a seat that holds none, by one exchange of its state word.
@@ -24,10 +26,10 @@ impl<T: Item> Board<T> {
         ensures stays_finished { Has number (view seat.old.seat).finished → (view seat.new.seat).found_word ≡ finished_word }
     {
         let shared = &self.table.shared;
-        let held = seat.number + HELD;
-        let found = shared.compare_exchange::<Take<T>>(&mut seat.seat, number as usize, FREE, held);
+        let place = number as usize;
+        let found = try_take(shared, &mut seat.seat, place, seat.number);
         if found == FREE {
-            return Claim::Held(take_out(shared, &mut seat.seat, number as usize));
+            return Claim::Held(take_out(shared, &mut seat.seat, place));
         }
         if found == FINISHED {
             return Claim::Finished;
@@ -48,7 +50,7 @@ impl<T: Item> Board<T> {
         let shared = &self.table.shared;
         let number = item.number() as usize;
         put_in(shared, &mut seat.seat, number, item);
-        shared.store::<Free>(&mut seat.seat, number, FREE);
+        free(shared, &mut seat.seat, number);
     }
 
     /// Puts the finished item that the seat holds back into its slot, and then says that it is
@@ -63,9 +65,9 @@ impl<T: Item> Board<T> {
         ensures view { view seat.new.seat ≡ holding (view seat.old.seat) None }
     {
         let shared = &self.table.shared;
-        let number = item.number() as usize;
-        put_in(shared, &mut seat.seat, number, item);
-        shared.store::<Finish>(&mut seat.seat, number, FINISHED);
+        let place = item.number() as usize;
+        put_in(shared, &mut seat.seat, place, item);
+        mark_finished(shared, &mut seat.seat, place);
     }
 
     /// Loads the state words in order until one isn't finished. None: the word that was loaded
@@ -82,7 +84,7 @@ impl<T: Item> Board<T> {
         if !find_all_finished(shared, &mut seat.seat, self.table.slot_count()) {
             return None;
         }
-        let seat = shared.split_seat::<Copy>(&mut seat.seat);
+        let seat = shared.split_seat::<CopyKnown>(&mut seat.seat);
         Some(Done { seat })
     }
 }
@@ -98,7 +100,7 @@ fn find_all_finished<T: Item>(top: &Top<T>, seat: &mut Place<T>, count: usize) -
     ensures not_all { (result ≡ false) → ((view seat.new).found_word ≢ finished_word) × ((view seat.old).loads < (view seat.new).loads) }
 {
     for i in 0..count {
-        if top.load::<Peek>(seat, i) != FINISHED {
+        if peek(top, seat, i) != FINISHED {
             return false;
         }
     }
