@@ -45,6 +45,10 @@ module _ {G : Type 0} where
   abbrev pub OnlyLoaded : View G → View G → Type 0
   OnlyLoaded v w = (w.tag ≡ v.tag) × (w.number ≡ v.number) × (w.dealt ≡ v.dealt) × (w.item ≡ v.item) × (v.loads ≤ w.loads) × ((i : ℕ) → Has i v.finished → Has i w.finished)
 
+  -- the word that was found last was loaded since v, is that of an item of the board, and isn't finished
+  abbrev pub FoundUnfinished : TableId → View G → View G → Type 0
+  FoundUnfinished id v w = (v.loads < w.loads) × (w.found_item < id.slots) × (w.found_word ≢ finished_word)
+
   -- the word names another seat's number
   abbrev pub IsOthers : View G → ℕ → Type 0
   IsOthers v n = (k : ℕ) × (n ≡ held_word k) × (v.number ≢ Some k)

@@ -1,5 +1,5 @@
-ghost use Rattle.std.specs.Prelude.{◌≡◌, ◌≢◌, ◌+◌, ◌<◌, true, false, Some, None, IfSome, IfNone, IsTrue};
-ghost use Rattle.claimboard.specs.Views.{view, IsOf, IsSameSeat, found_view, holding, finished_word, Has, KnowsAll, OnlyLoaded};
+ghost use Rattle.std.specs.Prelude.{◌≡◌, ◌<◌, true, false, Some, None, IfSome, IfNone, IsTrue};
+ghost use Rattle.claimboard.specs.Views.{view, IsOf, IsSameSeat, found_view, holding, finished_word, Has, KnowsAll, OnlyLoaded, FoundUnfinished};
 ghost use Rattle.claimboard.specs.Answers.{Answers};
 
 use super::Board;
@@ -77,7 +77,7 @@ impl<T: Item> Board<T> {
         ensures seat { IsOf self.now.table.shared.table_id self.now.table.shared.key.value seat.new.seat }
         ensures same { IsSameSeat seat.old.seat seat.new.seat }
         ensures only_loaded { OnlyLoaded (view seat.old.seat) (view seat.new.seat) }
-        ensures none { IfNone result (((view seat.new.seat).found_word ≢ finished_word) × ((view seat.old.seat).loads < (view seat.new.seat).loads)) }
+        ensures none { IfNone result (FoundUnfinished self.now.table.shared.table_id (view seat.old.seat) (view seat.new.seat)) }
         ensures some { IfSome result (λ d. d.seat.table_id ≡ self.now.table.shared.table_id) }
     {
         let shared = &self.table.shared;
@@ -97,7 +97,7 @@ fn find_all_finished<T: Item>(top: &Top<T>, seat: &mut Place<T>, count: usize) -
     ensures same { (seat.new.table_id ≡ seat.old.table_id) × (seat.new.id ≡ seat.old.id) × (seat.new.me.1 ≡ seat.old.me.1) }
     ensures only_loaded { OnlyLoaded (view seat.old) (view seat.new) }
     ensures all { IsTrue result → KnowsAll top.now.table_id seat.new }
-    ensures not_all { (result ≡ false) → ((view seat.new).found_word ≢ finished_word) × ((view seat.old).loads < (view seat.new).loads) }
+    ensures not_all { (result ≡ false) → FoundUnfinished top.now.table_id (view seat.old) (view seat.new) }
 {
     for i in 0..count {
         if peek(top, seat, i) != FINISHED {
