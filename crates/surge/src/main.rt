@@ -2,6 +2,8 @@
 //! the answer to standard output, and exits with the number of the status.
 #![tactic(auto)]
 
+ghost use Rattle.std.specs.Prelude.{◌≡◌, IfOk, map, string_bytes};
+
 use std::alloc::{AllocError, Global};
 use std::process::ExitCode;
 use std::rt::Env;
@@ -9,8 +11,10 @@ use std::{env, io};
 use surge_io::{StreamSink, StreamSource};
 use surge_top::{Status, surge_plain};
 
-// Lends the words.
-fn lend(alloc: Global, words: &[String]) -> Result<Vec<&str>, AllocError> {
+// Lends the words, each as it stands.
+fn lend(alloc: Global, words: &[String]) -> Result<Vec<&str>, AllocError>
+    ensures { IfOk result (λ lent. map (λ word. word.now) lent.items ≡ map string_bytes words.now) }
+{
     let mut lent = Vec::new(alloc);
     for word in words {
         lent.push(word.as_str())?;

@@ -3,7 +3,7 @@ use Rattle.std.proofs.Common.{◌≡◌, ◌<◌, ◌⊎◌, ℕ, true, false, L
 use Rattle.std.proofs.lemmas.List.{append-nil}
 use Rattle.std.proofs.lemmas.Bool.{lt-ltb}
 use Rattle.std.specs.Prelude.{IfSome}
-use Rattle.surge_io.specs.Bytes.{IsReading}
+use Rattle.surge_io.specs.Bytes.{IsReading, HasRead}
 use Rattle.surge_top.specs.Answer.{Answer, answer, answer_to, are_words}
 use Rattle.short_case.specs.ShortMesh.{verdict}
 use Rattle.surge_top.specs.Texts.{usage_text}
@@ -60,3 +60,9 @@ complete_from Range n r a w = inr (inr (a tt).1)
 complete_from ReadFault n r a w = absurd (r refl)
 complete_from WriteFault n r a w = inl (inr (w refl))
 complete_from Memory n r a w = inr (inl refl)
+
+-- what was read of a source is all that it had, or more than the limit
+pub read_of : (left now : Option (List ℕ)) (taken : List ℕ) → IfSome left (IsReading 65_536 taken) → HasRead left now taken →
+    IfSome left (λ bytes. (read : List ℕ) × IsReading 65_536 read bytes × HasRead left now read)
+read_of None now taken r h = tt
+read_of (Some bytes) now taken r h = (taken, r, h)

@@ -1,10 +1,12 @@
 //! The top call of `surge`: words and a case text in, the answer out, under the headline's clause.
 #![tactic(auto)]
 
+mod causes;
 mod status;
 mod texts;
 mod top;
 
+pub use causes::statuses_have_their_causes;
 pub use status::Status;
 pub use top::surge_plain;
 

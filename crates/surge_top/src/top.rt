@@ -48,6 +48,10 @@ pub fn surge_plain<R: AllocGlobal, S: Source, K: Sink>(
     // Words that are refused leave the source as it was.
     ensures words { (are_words (map (λ w. w.now) words.now) ≡ false) → (S.left src.new ≡ S.left src.old) × (S.faults src.new ≡ S.faults src.old) × ((result ≡ Status.Words) ⊎ (result ≡ Status.WriteFault)) }
 
+    // Words that are accepted have the source read to its end, or one byte past the limit.
+    ensures read { (are_words (map (λ w. w.now) words.now) ≡ true) → (result ≢ Status.ReadFault) → (result ≢ Status.Memory) →
+        IfSome (S.left src.old) (λ bytes. (taken : Items ℕ) × IsReading 65_536 taken bytes × HasRead (S.left src.old) (S.left src.new) taken) }
+
     // Where no count rises the status is that of the answer, or want of memory.
     ensures complete { IfSome (S.left src.old) (λ bytes. (Rose (S.faults src.old) (S.faults src.new) ⊎ Rose (K.faults out.old) (K.faults out.new))
         ⊎ ((result ≡ Status.Memory) ⊎ (number_of result ≡ (answer (map (λ w. w.now) words.now) bytes).status))) }

@@ -5,7 +5,7 @@ use Rattle.surge_top.specs.Answer.{answer_to}
 use Rattle.short_case.specs.ShortMesh.{verdict}
 use Rattle.surge_top.specs.Status.{number_of, IsAnswered}
 use Rattle.surge_top.specs.declared.status.Status.TheVariants.{WriteFault, Memory}
-use Rattle.surge_top.proofs.Answering.{for_words, for_taken, complete_from}
+use Rattle.surge_top.proofs.Answering.{for_words, for_taken, complete_from, read_of}
 use Rattle.surge_top.proofs.top.surge_plain.Goals as goal
 
 pub returns-then-not-are_words-clause-answer : goal.returns-then-not-are_words-clause-answer
@@ -46,3 +46,7 @@ returns-in-Ok-clause-complete g c =
     ⊎ ((c.answer_text.result ≡ Memory) ⊎ (number_of c.answer_text.result ≡ a.status)))
     (search rules) c.in-Ok.ensures.bytes
     (complete_from {X = Appends (g.K.Sink.held c.args.out.now) (g.K.Sink.held c.answer_text.new.out) (answer_to (verdict c.in-Ok.bytes.items)).text} c.answer_text.result (answer_to (verdict c.in-Ok.bytes.items)).status c.answer_text.ensures.read (rw (← c.deref.ensures.value) c.answer_text.ensures.answer) c.answer_text.ensures.cause)
+
+pub returns-in-Ok-clause-read : goal.returns-in-Ok-clause-read
+returns-in-Ok-clause-read g c =
+    λ accepted unfailed kept. read_of (g.S.Source.left c.args.src.now) (g.S.Source.left c.whole.new.src) c.in-Ok.bytes.items c.in-Ok.ensures.bytes c.in-Ok.ensures.rest
