@@ -1,0 +1,7 @@
+pub mod Divided
+pub mod Joined
+pub mod Least
+pub mod Read
+pub mod Sizes
+pub mod Whole
+pub mod Good

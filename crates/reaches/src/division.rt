@@ -1,0 +1,104 @@
+ghost use Rattle.std.specs.Prelude.{◌≡◌, ◌*◌, ◌+◌, ◌/◌, ◌≤◌, ℕ, Err, IfOk, length};
+ghost use Rattle.case_model.specs.Mesh.{IsMesh, IsNumbered};
+ghost use Rattle.case_model.specs.Limits.{IsRead};
+ghost use Rattle.case_model.specs.Sets.{AreEmpty, IsFirst};
+ghost use Rattle.reaches.specs.Told.{Tells};
+ghost use Rattle.case_model.specs.Division.{AreEnds, mesh_of, place_base};
+ghost use Rattle.case_model.specs.Refusals.{part_rules, is_too_large as is_too_large_of, sample_count as sample_count_of, passes};
+
+use crate::ends::all_ends;
+use crate::meshing::pipe_meshes;
+use crate::nodes::nodes_refusal;
+use crate::pipes::pipes_refusal;
+use crate::probes::probes_refusal;
+use crate::refusal::{Refusal, lesser};
+use case_model::{Case, End, List, Mesh};
+use std::alloc::{AllocError, Global};
+use thiserror::Error;
+
+/// Why a case isn't divided.
+#[derive(Clone, Copy, Debug, PartialEq, Eq, Error)]
+pub enum CaseFault {
+    /// The least rule that is broken, by line and then by number.
+    #[error("refused {number} line {line}")]
+    Refused { number: u8, line: u32 },
+    /// Want of memory.
+    #[error("out of memory")]
+    Memory,
+}
+
+/// The mesh of a case: its pipes in reaches of one time step, with wave speeds adjusted within the
+/// tolerance. `Refused` is the first refusal of the division. Takes memory for the mesh alone.
+/// Wylie and Streeter, Fluid Transients in Systems, complex systems in the method of characteristics.
+pub fn divide(alloc: Global, case: &Case) -> Result<Mesh, CaseFault>
+    requires { IsRead case.now }
+    ensures mesh { IfOk result (λ mesh. mesh ≡ mesh_of case.now) }
+    ensures accepted { IfOk result (λ mesh. AreEmpty (passes case.now)) }
+    ensures good { IfOk result (λ mesh. IsMesh mesh) }
+    ensures numbered { IfOk result (λ mesh. IsNumbered mesh) }
+    ensures refused { (number line : ℕ) → result ≡ Err (CaseFault.Refused number line) → IsFirst (passes case.now) line number }
+{
+    let Ok(ends) = all_ends(alloc, case) else {
+        return Err(CaseFault::Memory);
+    };
+    if let Some(refusal) = parts_refusal(case, &ends) {
+        return Err(CaseFault::Refused {
+            number: refusal.number,
+            line: refusal.line,
+        });
+    }
+    let Ok((pipes, places)) = pipe_meshes(alloc, case) else {
+        return Err(CaseFault::Memory);
+    };
+    if is_too_large(case, places) {
+        return Err(CaseFault::Refused {
+            number: 10,
+            line: 0,
+        });
+    }
+    Ok(Mesh {
+        pipes: List::over(pipes),
+        ends: List::over(ends),
+        places,
+    })
+}
+
+// The least refusal of single pipes, nodes and probes, if any.
+#[tactic(auto, unfolding(case_model::specs::Refusals::part_rules))]
+fn parts_refusal(case: &Case, ends: &[List<End>]) -> Option<Refusal>
+    requires read { IsRead case.now }
+    requires ends { AreEnds case.now ends.now }
+    ensures { Tells (part_rules case.now) result }
+{
+    let of_pipes_and_nodes = lesser(pipes_refusal(case), nodes_refusal(case, ends));
+    lesser(of_pipes_and_nodes, probes_refusal(case))
+}
+
+// Whether a case has too many places or samples.
+fn is_too_large(case: &Case, places: u64) -> bool
+    requires read { IsRead case.now }
+    requires places { places ≡ place_base case.now (length case.now.pipes) }
+    ensures { result ≡ is_too_large_of case.now }
+{
+    places > 400_000 || sample_count(case) > 4_000_000
+}
+
+// How many samples a case asks for.
+#[tactic(auto, unfolding(case_model::specs::Refusals::sample_count))]
+fn sample_count(case: &Case) -> u64
+    requires { IsRead case.now }
+    ensures { result ≡ sample_count_of case.now }
+{
+    samples(
+        case.probes.as_slice().len() as u64,
+        case.steps / case.every + 1,
+    )
+}
+
+fn samples(probes: u64, each: u64) -> u64
+    requires probes_in { probes ≤ 256 }
+    requires each_in { each ≤ 100_000_001 }
+    ensures { result ≡ probes * each }
+{
+    probes * each
+}

@@ -1,0 +1,22 @@
+//! Courant division: the mesh of a case, or its refusal.
+#![tactic(auto)]
+
+mod division;
+mod elevations;
+mod ends;
+mod formulas;
+mod meshing;
+mod nodes;
+mod pipes;
+mod probes;
+mod quotients;
+mod refusal;
+mod tested;
+mod valves;
+
+pub use division::{CaseFault, divide};
+pub use elevations::elevation;
+pub use formulas::coefficients;
+
+#[cfg(test)]
+mod tests;

@@ -1,0 +1,90 @@
+ghost use Rattle.std.specs.Prelude.{◌≡◌, ◌≤◌, ◌<◌, length};
+ghost use Rattle.case_model.specs.Limits.{IsNode, IsRead};
+ghost use Rattle.case_model.specs.Division.{node_ends, AreEnds};
+ghost use Rattle.case_model.specs.Sets.{FindsLeast, any_below};
+ghost use Rattle.reaches.specs.Told.{Tells};
+ghost use Rattle.case_model.specs.Refusals.{breaks_node, node_rules, ends_suit, is_joined as is_joined_of, is_through as is_through_of};
+
+use crate::refusal::{Refusal, lesser, on};
+use crate::valves::exceeds;
+use case_model::{Case, End, List, Node, NodeKind};
+
+/// The least refusal of single nodes, if any, with the ends at each node.
+pub(crate) fn nodes_refusal(case: &Case, ends: &[List<End>]) -> Option<Refusal>
+    requires read { IsRead case.now }
+    requires ends { AreEnds case.now ends.now }
+    ensures { Tells (any_below (node_rules case.now) (length case.now.nodes)) result }
+{
+    let mut least = None;
+    for node in 0..case.nodes.as_slice().len() {
+        least = lesser(
+            least,
+            node_refusal(case, node as u32, ends[node].as_slice()),
+        );
+    }
+    least
+}
+
+// The refusal of one node, if any.
+fn node_refusal(case: &Case, node: u32, ends: &[End]) -> Option<Refusal>
+    requires read { IsRead case.now }
+    requires there { node < length case.now.nodes }
+    requires ends { ends.now ≡ node_ends case.now node }
+    ensures { Tells (node_rules case.now node) result }
+{
+    let node = &case.nodes.as_slice()[node as usize];
+    on(node.line, judge(case, node, ends))
+}
+
+// The least rule that a node with these ends breaks, if any.
+#[tactic(auto, unfolding(case_model::specs::Refusals::breaks_node))]
+fn judge(case: &Case, node: &Node, ends: &[End]) -> Option<u8>
+    requires read { IsRead case.now }
+    requires node { IsNode case.now.tables node.now }
+    ensures { FindsLeast (breaks_node case.now node.now ends.now) result }
+{
+    if !suits(&node.kind, ends) {
+        return Some(11);
+    }
+    if exceeds(case, &node.kind, ends) {
+        return Some(15);
+    }
+    None
+}
+
+#[tactic(auto, unfolding(case_model::specs::Refusals::ends_suit))]
+pub(crate) fn suits(kind: &NodeKind, ends: &[End]) -> bool
+    ensures { result ≡ ends_suit kind.now ends.now }
+{
+    match kind {
+        NodeKind::Reservoir { .. } => is_joined(ends),
+        NodeKind::Junction { .. } => is_joined(ends),
+        NodeKind::Discharge { .. } => ends.len() == 1,
+        NodeKind::Inline { .. } => is_through(ends),
+        NodeKind::Pump { .. } => is_through(ends),
+        NodeKind::Tank { .. } => is_joined(ends),
+        NodeKind::Vessel { .. } => is_joined(ends),
+    }
+}
+
+fn is_joined(ends: &[End]) -> bool
+    ensures { result ≡ is_joined_of ends.now }
+{
+    1 <= ends.len() && ends.len() <= 8
+}
+
+/// Whether there are just a last end and a first end.
+pub(crate) fn is_through(ends: &[End]) -> bool
+    ensures { result ≡ is_through_of ends.now }
+{
+    match ends {
+        [] => false,
+        [_] => false,
+        [one, other] => if one.at_last {
+            !other.at_last
+        } else {
+            other.at_last
+        },
+        [_, _, _, ..] => false,
+    }
+}

@@ -1,0 +1,380 @@
+ghost use Rattle.std.specs.Prelude.{◌≡◌, ◌≤◌, [], pos, IsTrue, length, unsigned_abs, All};
+ghost use Rattle.case_model.specs.Limits.{IsJoined, IsKind, IsNode, IsPipe, IsRead, IsSpot, IsValve, IsWithin};
+
+use crate::{CaseFault, divide};
+use case_model::{Case, List, Name, Node, NodeKind, Pipe, Probe, ProbeAt, Value};
+use std::alloc::{AllocError, Global};
+use std::test::Fail;
+
+/// A reservoir at 100 m.
+const POOL: NodeKind = NodeKind::Reservoir {
+    head: Value::Fixed(100_000_000),
+};
+
+/// A junction without demand.
+const JOINT: NodeKind = NodeKind::Junction {
+    demand: Value::Fixed(0),
+    start: 100_000_000,
+};
+
+/// An open discharge valve of 1,000 m3/s with this loss.
+fn outlet(h0: i64) -> NodeKind {
+    NodeKind::Discharge {
+        q0: 1_000_000_000_000,
+        h0,
+        outlet: 0,
+        opening: Value::Fixed(1_000_000),
+        start: 100_000_000,
+    }
+}
+
+/// An open valve between two pipes of 1,000 m3/s with this loss.
+fn gate(h0: i64) -> NodeKind {
+    NodeKind::Inline {
+        q0: 1_000_000_000_000,
+        h0,
+        opening: Value::Fixed(1_000_000),
+        start: 100_000_000,
+        start2: 100_000_000,
+    }
+}
+
+fn node(line: u32, kind: NodeKind) -> Node {
+    Node {
+        name: Name::of(b"N"),
+        line,
+        elevation: 0,
+        kind,
+    }
+}
+
+/// A pipe 1 m wide at 1,000 m/s without friction.
+fn pipe(line: u32, first: u32, last: u32, length: i64) -> Pipe {
+    Pipe {
+        name: Name::of(b"P"),
+        line,
+        first,
+        last,
+        length,
+        diameter: 1_000,
+        speed: 1_000_000,
+        friction: 0,
+        flow: 0,
+    }
+}
+
+/// A case of nodes on lines from 10 on and these pipes, and one probe where it is given.
+fn network(
+    alloc: Global,
+    dt: i64,
+    kinds: &[NodeKind],
+    pipes: &[Pipe],
+    place: Option<u32>,
+) -> Result<Case, AllocError> {
+    let mut nodes = Vec::new(alloc);
+    for (k, kind) in kinds.iter().enumerate() {
+        if k < 100 {
+            nodes.push(node(10 + k as u32, *kind))?;
+        }
+    }
+    let mut probes = Vec::new(alloc);
+    if let Some(place) = place {
+        let at = ProbeAt::OnPipe { pipe: 0, place };
+        probes.push(Probe { line: 30, at })?;
+    }
+    Ok(Case {
+        dt,
+        steps: 10,
+        vapour: -10_100_000,
+        weight: 10,
+        tolerance: 150,
+        every: 1,
+        tables: List::over(Vec::new(alloc)),
+        nodes: List::over(nodes),
+        pipes: List::over(pipes.to_vec(alloc)?),
+        probes: List::over(probes),
+    })
+}
+
+fn within(least: i64, most: i64, x: i64) -> bool
+    ensures { IsTrue result → IsWithin least most x }
+{
+    least <= x && x <= most
+}
+
+fn numbers_of_pipe(p: &Pipe) -> bool
+    ensures length { IsTrue result → IsWithin (pos 1) (pos 1_000_000_000) p.now.length }
+    ensures diameter { IsTrue result → IsWithin (pos 20) (pos 10_000) p.now.diameter }
+    ensures speed { IsTrue result → IsWithin (pos 10_000) (pos 2_000_000) p.now.speed }
+    ensures friction { IsTrue result → IsWithin (pos 0) (pos 500_000) p.now.friction }
+    ensures flow { IsTrue result → unsigned_abs p.now.flow ≤ 1_000_000_000_000 }
+{
+    within(1, 1_000_000_000, p.length)
+        && within(20, 10_000, p.diameter)
+        && within(10_000, 2_000_000, p.speed)
+        && within(0, 500_000, p.friction)
+        && is_flow(p.flow)
+}
+
+fn is_pipe(p: &Pipe) -> bool
+    ensures { IsTrue result → IsPipe p.now }
+{
+    numbers_of_pipe(p)
+}
+
+fn are_pipes(pipes: &[Pipe]) -> bool
+    ensures { IsTrue result → All IsPipe pipes.now }
+{
+    for p in pipes {
+        if !is_pipe(p) {
+            return false;
+        }
+    }
+    true
+}
+
+fn are_joined(pipes: &[Pipe], nodes: usize) -> bool
+    ensures { IsTrue result → All (IsJoined nodes) pipes.now }
+{
+    for p in pipes {
+        if p.first as usize >= nodes || p.last as usize >= nodes {
+            return false;
+        }
+    }
+    true
+}
+
+fn is_valve(q0: i64, h0: i64) -> bool
+    ensures { IsTrue result → IsValve q0 h0 }
+{
+    within(0, 1_000_000_000_000, q0) && within(10_000, 100_000_000_000, h0)
+}
+
+fn is_head(h: i64) -> bool
+    ensures { IsTrue result → unsigned_abs h ≤ 100_000_000_000 }
+{
+    h.unsigned_abs() <= 100_000_000_000
+}
+
+fn is_outlet(q0: i64, h0: i64, outlet: i64, opening: i64, start: i64) -> bool
+    ensures valve { IsTrue result → IsValve q0 h0 }
+    ensures outlet { IsTrue result → unsigned_abs outlet ≤ 100_000_000_000 }
+    ensures opening { IsTrue result → IsWithin (pos 0) (pos 1_000_000) opening }
+    ensures start { IsTrue result → unsigned_abs start ≤ 100_000_000_000 }
+{
+    is_valve(q0, h0) && is_head(outlet) && within(0, 1_000_000, opening) && is_head(start)
+}
+
+fn is_gate(q0: i64, h0: i64, opening: i64, start: i64, start2: i64) -> bool
+    ensures valve { IsTrue result → IsValve q0 h0 }
+    ensures opening { IsTrue result → IsWithin (pos 0) (pos 1_000_000) opening }
+    ensures start { IsTrue result → unsigned_abs start ≤ 100_000_000_000 }
+    ensures start2 { IsTrue result → unsigned_abs start2 ≤ 100_000_000_000 }
+{
+    is_valve(q0, h0) && within(0, 1_000_000, opening) && is_head(start) && is_head(start2)
+}
+
+/// Whether what stands at a node is without tables, and within its limits.
+fn is_kind(kind: &NodeKind) -> bool
+    ensures { IsTrue result → IsKind [] kind.now }
+{
+    match kind {
+        NodeKind::Reservoir {
+            head: Value::Fixed(head),
+        } => is_head(*head),
+        NodeKind::Junction {
+            demand: Value::Fixed(demand),
+            start,
+        } => is_flow(*demand) && is_head(*start),
+        NodeKind::Discharge {
+            q0,
+            h0,
+            outlet,
+            opening: Value::Fixed(opening),
+            start,
+        } => is_outlet(*q0, *h0, *outlet, *opening, *start),
+        NodeKind::Inline {
+            q0,
+            h0,
+            opening: Value::Fixed(opening),
+            start,
+            start2,
+        } => is_gate(*q0, *h0, *opening, *start, *start2),
+        _ => false,
+    }
+}
+
+fn is_node(n: &Node) -> bool
+    ensures { IsTrue result → IsNode [] n.now }
+{
+    is_elevation(n.elevation) && is_kind(&n.kind)
+}
+
+fn is_elevation(z: i64) -> bool
+    ensures { IsTrue result → unsigned_abs z ≤ 10_000_000_000 }
+{
+    z.unsigned_abs() <= 10_000_000_000
+}
+
+fn is_flow(q: i64) -> bool
+    ensures { IsTrue result → unsigned_abs q ≤ 1_000_000_000_000 }
+{
+    q.unsigned_abs() <= 1_000_000_000_000
+}
+
+fn are_nodes(nodes: &[Node]) -> bool
+    ensures { IsTrue result → All (IsNode []) nodes.now }
+{
+    for n in nodes {
+        if !is_node(n) {
+            return false;
+        }
+    }
+    true
+}
+
+fn is_spot(at: &ProbeAt, pipes: usize, nodes: usize) -> bool
+    ensures { IsTrue result → IsSpot pipes nodes at.now }
+{
+    match at {
+        ProbeAt::OnPipe { pipe, place } => (*pipe as usize) < pipes && *place <= 65_536,
+        ProbeAt::OnNode { node } => (*node as usize) < nodes,
+    }
+}
+
+fn are_spots(probes: &[Probe], pipes: usize, nodes: usize) -> bool
+    ensures { IsTrue result → All (λ q. IsSpot pipes nodes q.at) probes.now }
+{
+    for q in probes {
+        if !is_spot(&q.at, pipes, nodes) {
+            return false;
+        }
+    }
+    true
+}
+
+fn counts_are_read(case: &Case) -> bool
+    ensures counts { IsTrue result → (length case.now.nodes ≤ 4_096) × (length case.now.pipes ≤ 4_096) × (length case.now.probes ≤ 256) }
+    ensures tables { IsTrue result → case.now.tables ≡ [] }
+{
+    case.nodes.as_slice().len() <= 4_096
+        && case.pipes.as_slice().len() <= 4_096
+        && case.probes.as_slice().len() <= 256
+        && case.tables.as_slice().is_empty()
+}
+
+fn numbers_are_read(case: &Case) -> bool
+    ensures dt { IsTrue result → IsWithin (pos 1) (pos 1_000_000) case.now.dt }
+    ensures tolerance { IsTrue result → IsWithin (pos 0) (pos 500) case.now.tolerance }
+    ensures weight { IsTrue result → IsWithin (pos 5) (pos 10) case.now.weight }
+    ensures steps { IsTrue result → (1 ≤ case.now.steps) × (case.now.steps ≤ 100_000_000) }
+    ensures every { IsTrue result → (1 ≤ case.now.every) × (case.now.every ≤ 100_000_000) }
+{
+    within(1, 1_000_000, case.dt)
+        && within(0, 500, case.tolerance)
+        && within(5, 10, case.weight)
+        && 1 <= case.steps
+        && case.steps <= 100_000_000
+        && 1 <= case.every
+        && case.every <= 100_000_000
+}
+
+/// Whether a case without tables is one that the case text can give.
+fn is_read(case: &Case) -> bool
+    ensures { IsTrue result → IsRead case.now }
+{
+    let nodes = case.nodes.as_slice();
+    let pipes = case.pipes.as_slice();
+    numbers_are_read(case)
+        && within(-100_000_000, 0, case.vapour)
+        && counts_are_read(case)
+        && are_nodes(nodes)
+        && are_pipes(pipes)
+        && are_joined(pipes, nodes.len())
+        && are_spots(case.probes.as_slice(), pipes.len(), nodes.len())
+}
+
+/// Number and line of the refusal; 0 and 0 where there is none, 255 without memory, 254 for a case
+/// that no case text gives.
+fn refusal(alloc: Global, case: &Case) -> (u8, u32) {
+    if !is_read(case) {
+        return (254, 0);
+    }
+    match divide(alloc, case) {
+        Ok(_) => (0, 0),
+        Err(CaseFault::Refused { number, line }) => (number, line),
+        Err(CaseFault::Memory) => (255, 0),
+    }
+}
+
+// Refusals at their edges, by the rules' own formulas in another program.
+#[test]
+fn refuses_at_the_edges(rt: HostRuntime) -> Result<(), Fail> {
+    let alloc = rt.alloc();
+    let pools = [POOL, POOL];
+    let rows = [
+        // one reach, and 1.5 rounded to 2 of which each is a quarter too short
+        (100_000, pipe(20, 0, 1, 149_999), None, (12, 20)),
+        (100_000, pipe(20, 0, 1, 150_000), None, (13, 20)),
+        // the adjustment at the tolerance of 0.15, and past it
+        (100_000, pipe(20, 0, 1, 230_000), None, (0, 0)),
+        (100_000, pipe(20, 0, 1, 230_001), None, (13, 20)),
+        // 65,536 reaches and 65,537
+        (10_000, pipe(20, 0, 1, 655_364_999), None, (0, 0)),
+        (10_000, pipe(20, 0, 1, 655_365_000), None, (12, 20)),
+        // a probe at the last place, and one past it
+        (100_000, pipe(20, 0, 1, 200_000), Some(2), (0, 0)),
+        (100_000, pipe(20, 0, 1, 200_000), Some(3), (16, 30)),
+        // a probe is not judged where its pipe is refused
+        (100_000, pipe(20, 0, 1, 149_999), Some(3), (12, 20)),
+        // an impedance under 10^5: 99,998 and 100,005
+        (
+            100_000,
+            Pipe {
+                diameter: 10_000,
+                speed: 77_025,
+                ..pipe(20, 0, 1, 15_404)
+            },
+            None,
+            (15, 20),
+        ),
+        (
+            100_000,
+            Pipe {
+                diameter: 10_000,
+                speed: 77_025,
+                ..pipe(20, 0, 1, 15_405)
+            },
+            None,
+            (0, 0),
+        ),
+        // a friction at 10^20
+        (
+            100_000,
+            Pipe {
+                diameter: 20,
+                speed: 77_350,
+                friction: 500_000,
+                ..pipe(20, 0, 1, 15_470)
+            },
+            None,
+            (0, 0),
+        ),
+        (
+            100_000,
+            Pipe {
+                diameter: 20,
+                speed: 77_350,
+                friction: 500_000,
+                ..pipe(20, 0, 1, 15_471)
+            },
+            None,
+            (15, 20),
+        ),
+    ];
+    for (dt, line, place, want) in rows {
+        let case = network(alloc, dt, &pools, &[line], place)?;
+        assert_eq!(rt; refusal(alloc, &case), want);
+    }
+    Ok(())
+}
