@@ -1,8 +1,10 @@
 ghost use Rattle.std.specs.Prelude.{◌≡◌, ◌≤◌, [], pos, IsTrue, length, unsigned_abs, All};
-ghost use Rattle.case_model.specs.Limits.{IsJoined, IsKind, IsNode, IsPipe, IsRead, IsSpot, IsValve, IsWithin};
+ghost use Rattle.case_model.specs.Limits.{IsJoined, IsKind, IsNode, IsPipe, IsRead, IsSpot, IsWithin};
 
-use crate::{CaseFault, divide};
-use case_model::{Case, List, Name, Node, NodeKind, Pipe, Probe, ProbeAt, Value};
+use crate::nodes::suits;
+use crate::valves::{is_outside, is_over};
+use crate::{CaseFault, coefficients, divide, elevation};
+use case_model::{Case, End, List, Name, Node, NodeKind, Pipe, PipeMesh, Probe, ProbeAt, Value};
 use std::alloc::{AllocError, Global};
 use std::test::Fail;
 
@@ -16,28 +18,6 @@ const JOINT: NodeKind = NodeKind::Junction {
     demand: Value::Fixed(0),
     start: 100_000_000,
 };
-
-/// An open discharge valve of 1,000 m3/s with this loss.
-fn outlet(h0: i64) -> NodeKind {
-    NodeKind::Discharge {
-        q0: 1_000_000_000_000,
-        h0,
-        outlet: 0,
-        opening: Value::Fixed(1_000_000),
-        start: 100_000_000,
-    }
-}
-
-/// An open valve between two pipes of 1,000 m3/s with this loss.
-fn gate(h0: i64) -> NodeKind {
-    NodeKind::Inline {
-        q0: 1_000_000_000_000,
-        h0,
-        opening: Value::Fixed(1_000_000),
-        start: 100_000_000,
-        start2: 100_000_000,
-    }
-}
 
 fn node(line: u32, kind: NodeKind) -> Node {
     Node {
@@ -102,24 +82,19 @@ fn within(least: i64, most: i64, x: i64) -> bool
     least <= x && x <= most
 }
 
-fn numbers_of_pipe(p: &Pipe) -> bool
-    ensures length { IsTrue result → IsWithin (pos 1) (pos 1_000_000_000) p.now.length }
-    ensures diameter { IsTrue result → IsWithin (pos 20) (pos 10_000) p.now.diameter }
-    ensures speed { IsTrue result → IsWithin (pos 10_000) (pos 2_000_000) p.now.speed }
-    ensures friction { IsTrue result → IsWithin (pos 0) (pos 500_000) p.now.friction }
-    ensures flow { IsTrue result → unsigned_abs p.now.flow ≤ 1_000_000_000_000 }
-{
-    within(1, 1_000_000_000, p.length)
-        && within(20, 10_000, p.diameter)
-        && within(10_000, 2_000_000, p.speed)
-        && within(0, 500_000, p.friction)
-        && is_flow(p.flow)
-}
-
 fn is_pipe(p: &Pipe) -> bool
     ensures { IsTrue result → IsPipe p.now }
 {
-    numbers_of_pipe(p)
+    if !within(1, 1_000_000_000, p.length) {
+        return false;
+    }
+    if !within(20, 10_000, p.diameter) {
+        return false;
+    }
+    if !within(10_000, 2_000_000, p.speed) {
+        return false;
+    }
+    within(0, 500_000, p.friction) && is_flow(p.flow)
 }
 
 fn are_pipes(pipes: &[Pipe]) -> bool
@@ -144,34 +119,10 @@ fn are_joined(pipes: &[Pipe], nodes: usize) -> bool
     true
 }
 
-fn is_valve(q0: i64, h0: i64) -> bool
-    ensures { IsTrue result → IsValve q0 h0 }
-{
-    within(0, 1_000_000_000_000, q0) && within(10_000, 100_000_000_000, h0)
-}
-
 fn is_head(h: i64) -> bool
     ensures { IsTrue result → unsigned_abs h ≤ 100_000_000_000 }
 {
     h.unsigned_abs() <= 100_000_000_000
-}
-
-fn is_outlet(q0: i64, h0: i64, outlet: i64, opening: i64, start: i64) -> bool
-    ensures valve { IsTrue result → IsValve q0 h0 }
-    ensures outlet { IsTrue result → unsigned_abs outlet ≤ 100_000_000_000 }
-    ensures opening { IsTrue result → IsWithin (pos 0) (pos 1_000_000) opening }
-    ensures start { IsTrue result → unsigned_abs start ≤ 100_000_000_000 }
-{
-    is_valve(q0, h0) && is_head(outlet) && within(0, 1_000_000, opening) && is_head(start)
-}
-
-fn is_gate(q0: i64, h0: i64, opening: i64, start: i64, start2: i64) -> bool
-    ensures valve { IsTrue result → IsValve q0 h0 }
-    ensures opening { IsTrue result → IsWithin (pos 0) (pos 1_000_000) opening }
-    ensures start { IsTrue result → unsigned_abs start ≤ 100_000_000_000 }
-    ensures start2 { IsTrue result → unsigned_abs start2 ≤ 100_000_000_000 }
-{
-    is_valve(q0, h0) && within(0, 1_000_000, opening) && is_head(start) && is_head(start2)
 }
 
 /// Whether what stands at a node is without tables, and within its limits.
@@ -186,20 +137,6 @@ fn is_kind(kind: &NodeKind) -> bool
             demand: Value::Fixed(demand),
             start,
         } => is_flow(*demand) && is_head(*start),
-        NodeKind::Discharge {
-            q0,
-            h0,
-            outlet,
-            opening: Value::Fixed(opening),
-            start,
-        } => is_outlet(*q0, *h0, *outlet, *opening, *start),
-        NodeKind::Inline {
-            q0,
-            h0,
-            opening: Value::Fixed(opening),
-            start,
-            start2,
-        } => is_gate(*q0, *h0, *opening, *start, *start2),
         _ => false,
     }
 }
@@ -376,5 +313,129 @@ fn refuses_at_the_edges(rt: HostRuntime) -> Result<(), Fail> {
         let case = network(alloc, dt, &pools, &[line], place)?;
         assert_eq!(rt; refusal(alloc, &case), want);
     }
+    Ok(())
+}
+
+// 400,000 places and one more, 4,000,000 samples and one more, 8 ends and 9, and a pipe from a node
+// to itself, counted by hand.
+#[test]
+fn refuses_by_counts(rt: HostRuntime) -> Result<(), Fail> {
+    let alloc = rt.alloc();
+    let pools = [POOL, POOL];
+    let most = pipe(20, 0, 1, 655_360_000);
+    let whole = [
+        most,
+        most,
+        most,
+        most,
+        most,
+        most,
+        pipe(21, 0, 1, 67_750_000),
+    ];
+    let case = network(alloc, 10_000, &pools, &whole, None)?;
+    assert_eq!(rt; refusal(alloc, &case), (0, 0));
+    let over = [
+        most,
+        most,
+        most,
+        most,
+        most,
+        most,
+        pipe(21, 0, 1, 67_760_000),
+    ];
+    let case = network(alloc, 10_000, &pools, &over, None)?;
+    assert_eq!(rt; refusal(alloc, &case), (10, 0));
+    let short = pipe(20, 0, 1, 200_000);
+    let mut case = network(alloc, 100_000, &pools, &[short], Some(0))?;
+    case.steps = 3_999_999;
+    assert_eq!(rt; refusal(alloc, &case), (0, 0));
+    case.steps = 4_000_000;
+    assert_eq!(rt; refusal(alloc, &case), (10, 0));
+    let case = network(alloc, 100_000, &pools, &[short; 8], None)?;
+    assert_eq!(rt; refusal(alloc, &case), (0, 0));
+    let case = network(alloc, 100_000, &pools, &[short; 9], None)?;
+    assert_eq!(rt; refusal(alloc, &case), (11, 10));
+    let case = network(alloc, 100_000, &[POOL], &[pipe(20, 0, 0, 200_000)], None)?;
+    assert_eq!(rt; refusal(alloc, &case), (11, 20));
+    Ok(())
+}
+
+// Ends that suit, a valve's number and a vessel's at their edges: with b 129834328 and a flow of
+// 1,000 m3/s, b*q0^2 is 2*h0*10^24 at h0 64917164.
+#[test]
+fn judges_nodes(rt: HostRuntime) {
+    let last = End {
+        pipe: 0,
+        at_last: true,
+    };
+    let first = End {
+        pipe: 1,
+        at_last: false,
+    };
+    let pump = NodeKind::Pump {
+        curve: 0,
+        speed: Value::Fixed(1_000_000),
+        start: 0,
+        start2: 0,
+    };
+    assert!(rt; suits(&pump, &[last, first]));
+    assert!(rt; suits(&pump, &[first, last]));
+    assert!(rt; !suits(&pump, &[last, last]));
+    assert!(rt; !suits(&pump, &[last, first, last]));
+    assert!(rt; !suits(&JOINT, &[]));
+    assert!(rt; !is_over(1_000_000_000_000, 64_917_164, 129_834_328));
+    assert!(rt; is_over(1_000_000_000_000, 64_917_163, 129_834_328));
+    let gas = [(5, 40), (10, 20)];
+    assert!(rt; is_outside(&gas, 4));
+    assert!(rt; !is_outside(&gas, 5));
+    assert!(rt; !is_outside(&gas, 10));
+    assert!(rt; is_outside(&gas, 11));
+}
+
+// Still water: 200 m at 1,000 m/s and 0.1 s. The coefficients are those of the worked vector.
+#[test]
+fn divides_still_water(rt: HostRuntime) -> Result<(), Fail> {
+    let alloc = rt.alloc();
+    let case = network(
+        alloc,
+        100_000,
+        &[POOL, POOL],
+        &[pipe(20, 0, 1, 200_000)],
+        None,
+    )?;
+    assert!(rt; is_read(&case));
+    let mesh = divide(alloc, &case)?;
+    let pipes = mesh.pipes.as_slice();
+    assert_eq!(rt; pipes.len(), 1);
+    assert_eq!(rt;
+        pipes[0],
+        PipeMesh {
+            reaches: 2,
+            b: 129_834_328,
+            r: 0,
+            base: 2
+        }
+    );
+    assert_eq!(rt; mesh.places, 5);
+    assert_eq!(rt; elevation(&case, &mesh, 0, 1), 0);
+    let rough = Pipe {
+        friction: 20_000,
+        ..pipe(20, 0, 1, 200_000)
+    };
+    assert!(rt; is_pipe(&rough));
+    assert_eq!(rt;
+        coefficients(&rough, 100_000, 2),
+        (129_834_328, 165_310_234_669)
+    );
+    let narrow = Pipe {
+        diameter: 20,
+        friction: 500_000,
+        ..pipe(20, 0, 1, 1_000_000_000)
+    };
+    assert!(rt; is_pipe(&narrow));
+    assert_eq!(rt;
+        coefficients(&narrow, 1, 2),
+        (10_000_000_000_001, 100_000_000_000_000_000_001)
+    );
     Ok(())
 }

@@ -95,7 +95,7 @@ fn impedance_at(case: &Case, pipe: u32) -> i64
 
 // Whether b*q0^2 is over 2*h0*10^24.
 #[tactic(auto, unfolding(case_model::specs::Refusals::is_over))]
-fn is_over(q0: i64, h0: i64, b: i64) -> bool
+pub(crate) fn is_over(q0: i64, h0: i64, b: i64) -> bool
     requires valve { IsValve q0 h0 }
     requires b { IsWithin (pos 0) (pos 20_000_000_000_000) b }
     ensures { result ≡ is_over_of q0 h0 b }

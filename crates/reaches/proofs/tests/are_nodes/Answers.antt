@@ -9,4 +9,4 @@ loop-n-preserved c =
     let n = c.n-item.result in
     let h : IsNode [] n = search rules in
     AllWithin-more (IsNode []) c.args.nodes.now 0 c.loop-n.n-index c.loop-n.invariant
-    (λ d l. subst (IsNode []) (read_as c.args.nodes.now c.args.nodes.now c.loop-n.n-index n d c.n-item.is refl c.loop-n-test.true) h)
+    (λ d. subst (IsNode []) (read_as c.args.nodes.now c.args.nodes.now c.loop-n.n-index n d c.n-item.is refl c.loop-n-test.true) h)
