@@ -1,0 +1,5 @@
+pub mod Functions
+pub mod Slots
+pub mod PartsKept
+pub mod SeatsKept
+pub mod StepsAllowed
