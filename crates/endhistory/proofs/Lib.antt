@@ -3,3 +3,4 @@ pub mod Slots
 pub mod PartsKept
 pub mod SeatsKept
 pub mod StepsAllowed
+pub mod InARow

@@ -1,7 +1,7 @@
 -- Each kind of step keeps the six parts of the rule: over plain data, with no seat.
 use Rattle.std.proofs.Common.{◌≡◌, ◌≢◌, ℕ, ◌+◌, ◌*◌, ◌%◌, ◌<◌, ◌≤◌, List, length, get_or, set, sym, refl, ap, ◌∙◌, subst, arith}
 use mathlib.Core.Logic.{dite}
-use native.Mathlib.Decide.{ℕ_discrete}
+use native.Mathlib.Decide.{dec_le, ℕ_discrete}
 use Rattle.std.proofs.lemmas.List.{get_or-set_other, get_or-set_same, length-set}
 use Rattle.atomic_table.proofs.Lists.{one_turn}
 use Rattle.endhistory.specs.declared.views.Sizes.{Sizes}
@@ -11,15 +11,9 @@ use Rattle.endhistory.specs.Blocks.{Blocks, block, data_word, word_count}
 use Rattle.endhistory.specs.Steps.{IsFree, CheckNeeds, FillNeeds, PublishNeeds, TakeNeeds, PassNeeds, checked_view, filled_view, published_view, looked_view, taken_view, passed_view}
 use Rattle.endhistory.specs.Rule.{IsStored, Parts}
 use Rattle.endhistory.proofs.Functions.{put, put_each}
-use Rattle.endhistory.proofs.Slots.{slot_apart, data_inside, data_past, same_slot, set_count}
+use Rattle.endhistory.proofs.Slots.{risen, slot_apart, data_inside, data_past, same_slot, set_count}
 
 module _ (z : Sizes) (blocks : Blocks) (words : List ℕ) (w : Writing) (q : ℕ → Reading) where
-  -- a list of numbers that rises where one of them is set
-  risen : (known : List ℕ) (r n : ℕ) → r < length known → get_or known r 0 ≤ n → (k : ℕ) → get_or known k 0 ≤ get_or (set known r n) k 0
-  risen known r n l le k = dite (ℕ_discrete k r)
-      (λ e. subst (λ (j : ℕ). get_or known j 0 ≤ get_or (set known r n) j 0) (sym e) (subst (λ (x : ℕ). get_or known r 0 ≤ x) (sym (get_or-set_same known r n 0 l)) le))
-      (λ other. omega (arith, get_or-set_other known r k n 0 other))
-
   pub checks : (r n : ℕ) → r < z.readers → n ≡ get_or words (1 + r) 0 → Parts z blocks words w q
       → Parts z blocks words (checked_view w r n) q × (get_or w.known r 0 ≤ n)
   checks r n l is p =
@@ -144,3 +138,11 @@ module _ (z : Sizes) (blocks : Blocks) (words : List ℕ) (w : Writing) (q : ℕ
       reads (set words word x) r (passed_view (q r)) (λ k other. get_or-set_other words word k x 0 (λ e. other (e ∙ at))) l
           (subst (λ (k : ℕ). get_or (set words k x) (1 + r) 0 ≡ (q r).next + 1) (sym at) (get_or-set_same words (1 + r) x 0 inside ∙ needs.word_is))
           (omega arith) (omega arith) (omega arith) seen (λ some. absurd (omega arith)) p
+
+  -- where the writer may fill, every reader has passed each older block of the slot
+  pub passed_older : 0 < z.slots → Parts z blocks words w q → IsFree z w → (c r : ℕ) → c < w.next → c % z.slots ≡ w.next % z.slots → r < z.readers → c < get_or words (1 + r) 0
+  passed_older some p free c r older turn l = dite (dec_le w.next (c + z.slots))
+      (λ near. dite (ℕ_discrete w.next (c + z.slots))
+          (λ last. let f = free r l in let k = p.known r l in let e = p.passed r l in omega arith)
+          (λ other. let same : c ≡ w.next = one_turn c w.next z.slots (omega arith) (omega arith) turn in absurd (omega arith)))
+      (λ far. let f = free r l in let k = p.known r l in let e = p.passed r l in omega arith)

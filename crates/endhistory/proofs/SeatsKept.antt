@@ -223,7 +223,7 @@ module _ (z : Sizes) where
       passed = λ r l. get_or-replicate (word_count z) (1 + r) 0 0 (omega arith);
       behind = λ r l. omega arith;
       window = λ r l. omega arith;
-      known = λ r l. let e = get_or-replicate z.readers r 0 0 l in omega arith;
+      known = λ r l. subst (λ (x : ℕ). x ≤ 0) (sym (get_or-replicate z.readers r 0 0 l)) (omega arith);
       each_known = length-replicate z.readers 0;
       filling = λ l. absurd (omega arith);
       seen = λ r l. omega arith;

@@ -1,8 +1,8 @@
 -- Slots lie apart, and within the table.
 use Rattle.std.proofs.Common.{◌≡◌, ◌≢◌, ℕ, suc, ◌+◌, ◌*◌, ◌%◌, ◌<◌, ◌≤◌, List, length, get_or, set, sym, refl, ap, ◌∙◌, subst, mul-le-mul_right, suc-mul, lt_of_not-le, mod-lt, arith}
 use mathlib.Core.Logic.{dite}
-use native.Mathlib.Decide.{dec_le}
-use Rattle.std.proofs.lemmas.List.{get_or-set_other}
+use native.Mathlib.Decide.{dec_le, ℕ_discrete}
+use Rattle.std.proofs.lemmas.List.{get_or-set_other, get_or-set_same}
 use Rattle.endhistory.specs.declared.views.Sizes.{Sizes}
 use Rattle.endhistory.specs.Blocks.{Blocks, block, data_word, word_count}
 use Rattle.endhistory.specs.Rule.{IsStored}
@@ -14,6 +14,12 @@ apart : (a b w i j : ℕ) → i < w → j < w → a ≢ b → a * w + i ≢ b * 
 apart a b w i j l m other e = dite (dec_le b a)
     (λ le. dite (dec_le a b) (λ ge. other (omega arith)) (λ lt. let f = further b a w (lt_of_not-le lt) in omega arith))
     (λ lt. let f = further a b w (lt_of_not-le lt) in omega arith)
+
+-- a list of numbers that rises where one of them is set
+pub risen : (known : List ℕ) (r n : ℕ) → r < length known → get_or known r 0 ≤ n → (k : ℕ) → get_or known k 0 ≤ get_or (set known r n) k 0
+risen known r n l le k = dite (ℕ_discrete k r)
+    (λ e. subst (λ (j : ℕ). get_or known j 0 ≤ get_or (set known r n) j 0) (sym e) (subst (λ (x : ℕ). get_or known r 0 ≤ x) (sym (get_or-set_same known r n 0 l)) le))
+    (λ other. omega (arith, get_or-set_other known r k n 0 other))
 
 module _ (z : Sizes) where
   pub slot_apart : (c d i j : ℕ) → i < z.width → j < z.width → c % z.slots ≢ d % z.slots → data_word z c i ≢ data_word z d j

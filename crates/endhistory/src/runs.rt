@@ -1,5 +1,5 @@
 //! Several steps of one seat in a row.
-ghost use Rattle.std.specs.Prelude.{◌≡◌, ◌+◌, ◌*◌, ◌%◌, ◌<◌, ◌≤◌, length};
+ghost use Rattle.std.specs.Prelude.{◌≡◌, ℕ, ◌+◌, ◌*◌, ◌%◌, ◌<◌, ◌≤◌, length, MatchBool};
 ghost use Rattle.endhistory.specs.Blocks.{block, IsSizes, word_count};
 ghost use Rattle.endhistory.specs.Steps.{IsFree};
 ghost use Rattle.endhistory.specs.Seats.{IsAt, IsWriter, IsReader, WritesWith, ReadsWith, HasAsked, writing, reading, number_of, blocks_of, filled_to, taken_to};
@@ -18,6 +18,15 @@ pub(crate) fn slot_start(sizes: Sizes, next: u64) -> usize
     1 + sizes.readers + (next % sizes.slots as u64) as usize * sizes.width
 }
 
+// Whether a reader that has passed so many blocks holds the slot of the next one.
+pub(crate) fn holds_slot(sizes: Sizes, next: u64, passed: u64) -> bool
+    requires { IsSizes sizes }
+    ensures { MatchBool result (passed + sizes.slots ≤ next) (next < passed + sizes.slots) }
+{
+    let slots = sizes.slots as u64;
+    slots <= next && passed <= next - slots
+}
+
 // Asks the readers in order whether the slot of the next block is free.
 pub(crate) fn check_all(top: &Top, seat: &mut Place, sizes: Sizes, next: u64) -> Vacancy
     requires at { IsAt top.now.table_id sizes seat.old × IsSizes sizes × (sizes ≡ top.now.key) }
@@ -28,7 +37,7 @@ pub(crate) fn check_all(top: &Top, seat: &mut Place, sizes: Sizes, next: u64) ->
 {
     for reader in 0..sizes.readers {
         let passed = top.load::<Check>(seat, 1 + reader);
-        if next >= sizes.slots as u64 && passed <= next - sizes.slots as u64 {
+        if holds_slot(sizes, next, passed) {
             return Vacancy::Held {
                 reader: reader as u32,
                 passed,
