@@ -64,6 +64,18 @@ pub record IsAt (id : TableId) (z : Sizes) (s : Place) : Type 0 where
   pub words : id.words ≡ word_count z
   pub sizes : s.me.0.sizes ≡ z
 
+-- a writer that `make` gave: its seat is of this table, it has this list of blocks, and all its counts are 0
+pub record IsNewWriter (id : TableId) (z : Sizes) (blocks : Blocks) (s : Place) : Type 0 where
+  pub at : IsAt id z s
+  pub blocks_are : blocks_of s ≡ blocks
+  pub view : writing s ≡ start_writing z
+
+-- a reader that `make` gave
+pub record IsNewReader (id : TableId) (z : Sizes) (blocks : Blocks) (s : Place) : Type 0 where
+  pub at : IsAt id z s
+  pub blocks_are : blocks_of s ≡ blocks
+  pub view : reading s ≡ start_reading
+
 -- the same seat of the same table, with the same sizes and the same list of blocks
 pub record IsSamePlace (s t : Place) : Type 0 where
   pub table : t.table_id ≡ s.table_id

@@ -5,7 +5,7 @@ ghost use Rattle.endhistory.specs.declared.views.Role.TheVariants.{Unopened, Nob
 ghost use Rattle.endhistory.specs.Blocks.{AreWide, IsSizes};
 ghost use Rattle.endhistory.specs.Rule.{start_writing, start_reading};
 ghost use Rattle.endhistory.specs.Tells.{opened, writer_view, reader_view, dealing, in_role};
-ghost use Rattle.endhistory.specs.Seats.{IsAt, writing, reading, number_of, blocks_of};
+ghost use Rattle.endhistory.specs.Seats.{IsAt, IsNewReader, IsNewWriter, writing, reading, number_of, blocks_of};
 
 use crate::blocks::BlockTag;
 use crate::history::{History, Reader, Writer};
@@ -48,7 +48,7 @@ pub(crate) fn deal_readers(
     requires dealer { seat.old.me.0.role ≡ Nobody 0 }
     requires blocks { (length (blocks_of seat.old) ≤ 2 ^ 62) × AreWide sizes.width (blocks_of seat.old) }
     ensures count { IfOk result (λ v. length v.items ≡ sizes.readers) }
-    ensures all { IfOk result (λ v. All (λ r. IsAt top.now.table_id sizes r.seat × (blocks_of r.seat ≡ blocks_of seat.old) × (reading r.seat ≡ start_reading)) v.items) }
+    ensures all { IfOk result (λ v. All (λ r. IsNewReader top.now.table_id sizes (blocks_of seat.old) r.seat) v.items) }
     ensures numbers { IfOk result (λ v. map (λ r. number_of r.seat) v.items ≡ range_with_len 0 sizes.readers) }
 {
     let mut readers = Vec::with_capacity(alloc, sizes.readers)?;
@@ -68,9 +68,9 @@ pub(crate) fn open<T: BlockTag>(
     requires sizes { IsSizes sizes }
     requires blocks { (length (T.blocks tag.now) ≤ 2 ^ 62) × AreWide sizes.width (T.blocks tag.now) }
     ensures history { IfOk result (λ t. t.0.sizes ≡ sizes) }
-    ensures writer { IfOk result (λ t. IsAt t.0.table.shared.table_id sizes t.1.seat × (blocks_of t.1.seat ≡ T.blocks tag.now) × (writing t.1.seat ≡ start_writing sizes)) }
+    ensures writer { IfOk result (λ t. IsNewWriter t.0.table.shared.table_id sizes (T.blocks tag.now) t.1.seat) }
     ensures count { IfOk result (λ t. length t.2.items ≡ sizes.readers) }
-    ensures all { IfOk result (λ t. All (λ r. IsAt t.0.table.shared.table_id sizes r.seat × (blocks_of r.seat ≡ T.blocks tag.now) × (reading r.seat ≡ start_reading)) t.2.items) }
+    ensures all { IfOk result (λ t. All (λ r. IsNewReader t.0.table.shared.table_id sizes (T.blocks tag.now) r.seat) t.2.items) }
     ensures numbers { IfOk result (λ t. map (λ r. number_of r.seat) t.2.items ≡ range_with_len 0 sizes.readers) }
 {
     let words = vec![in alloc; 0; 1 + sizes.readers + sizes.slots * sizes.width]?;
