@@ -76,13 +76,6 @@ pub record IsNewReader (id : TableId) (z : Sizes) (blocks : Blocks) (s : Place) 
   pub blocks_are : blocks_of s ≡ blocks
   pub view : reading s ≡ start_reading
 
--- the same seat of the same table, with the same sizes and the same list of blocks
-pub record IsSamePlace (s t : Place) : Type 0 where
-  pub table : t.table_id ≡ s.table_id
-  pub seat : t.id ≡ s.id
-  pub sizes : t.me.0.sizes ≡ s.me.0.sizes
-  pub blocks : t.me.0.blocks ≡ s.me.0.blocks
-
 -- the seat is as it was, but for the writer's view
 abbrev pub WritesWith : Place → Writing → Place → Type 0
 WritesWith s w t = (t.table_id ≡ s.table_id) × (t.id ≡ s.id) × (t.me ≡ (in_role s.me.0 (AsWriter w), []))

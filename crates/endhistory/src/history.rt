@@ -5,7 +5,7 @@ ghost use Rattle.endhistory.specs.Blocks.{block, word_count, sizes_of, AreWide, 
 ghost use Rattle.endhistory.specs.Steps.{IsFree, published_view, looked_view, passed_view};
 ghost use Rattle.endhistory.specs.Rule.{start_writing, start_reading};
 ghost use Rattle.endhistory.specs.Answers.{Finds, Says};
-ghost use Rattle.endhistory.specs.Seats.{IsAt, IsNewReader, IsNewWriter, IsSamePlace, IsWriter, IsReader, writing, reading, number_of, blocks_of, taken_to};
+ghost use Rattle.endhistory.specs.Seats.{IsAt, IsNewReader, IsNewWriter, IsWriter, IsReader, writing, reading, number_of, blocks_of, taken_to};
 
 use crate::answers::{Look, Vacancy};
 use crate::blocks::BlockTag;
@@ -94,8 +94,9 @@ impl History {
     /// Asks the readers, in order, whether the writer may publish its next
     /// block: `Held` names the first that has not passed the block in its slot.
     pub fn vacancy(&self, writer: &mut Writer) -> Vacancy
-        requires { IsAt self.now.table.shared.table_id self.now.sizes writer.old.seat }
-        ensures seat { IsSamePlace writer.old.seat writer.new.seat }
+        requires at { IsAt self.now.table.shared.table_id self.now.sizes writer.old.seat }
+        ensures at { IsAt self.now.table.shared.table_id self.now.sizes writer.new.seat }
+        ensures blocks { blocks_of writer.new.seat ≡ blocks_of writer.old.seat }
         ensures next { (writing writer.new.seat).next ≡ (writing writer.old.seat).next }
         ensures answer { Finds self.now.sizes result (writing writer.old.seat) (writing writer.new.seat) }
     {
@@ -109,10 +110,11 @@ impl History {
 
     /// Stores the words of the next block, and then that it is published.
     pub fn publish(&self, writer: &mut Writer, words: &[u64])
-        requires seat { IsAt self.now.table.shared.table_id self.now.sizes writer.old.seat }
+        requires at { IsAt self.now.table.shared.table_id self.now.sizes writer.old.seat }
         requires free { IsFree self.now.sizes (writing writer.old.seat) }
         requires words { ((writing writer.old.seat).next < length (blocks_of writer.old.seat)) × (words.now ≡ block (blocks_of writer.old.seat) (writing writer.old.seat).next) }
-        ensures seat { IsSamePlace writer.old.seat writer.new.seat }
+        ensures at { IsAt self.now.table.shared.table_id self.now.sizes writer.new.seat }
+        ensures blocks { blocks_of writer.new.seat ≡ blocks_of writer.old.seat }
         ensures view { writing writer.new.seat ≡ published_view (writing writer.old.seat) }
     {
         let top = &self.table.shared;
@@ -124,8 +126,9 @@ impl History {
 
     /// Loads the published count, and tells whether the reader may fetch its next block.
     pub fn look(&self, reader: &mut Reader) -> Look
-        requires { IsAt self.now.table.shared.table_id self.now.sizes reader.old.seat }
-        ensures seat { IsSamePlace reader.old.seat reader.new.seat }
+        requires at { IsAt self.now.table.shared.table_id self.now.sizes reader.old.seat }
+        ensures at { IsAt self.now.table.shared.table_id self.now.sizes reader.new.seat }
+        ensures blocks { blocks_of reader.new.seat ≡ blocks_of reader.old.seat }
         ensures number { number_of reader.new.seat ≡ number_of reader.old.seat }
         ensures view { reading reader.new.seat ≡ looked_view (reading reader.old.seat) (reading reader.new.seat).seen }
         ensures rising { (reading reader.old.seat).seen ≤ (reading reader.new.seat).seen }
@@ -141,10 +144,11 @@ impl History {
 
     /// Loads the words of the reader's next block into a slice of `width` words.
     pub fn fetch(&self, reader: &mut Reader, into: &mut [u64])
-        requires seat { IsAt self.now.table.shared.table_id self.now.sizes reader.old.seat }
+        requires at { IsAt self.now.table.shared.table_id self.now.sizes reader.old.seat }
         requires ready { ((reading reader.old.seat).next < (reading reader.old.seat).seen) × ((reading reader.old.seat).taken ≡ 0) }
         requires wide { length into.old ≡ self.now.sizes.width }
-        ensures seat { IsSamePlace reader.old.seat reader.new.seat }
+        ensures at { IsAt self.now.table.shared.table_id self.now.sizes reader.new.seat }
+        ensures blocks { blocks_of reader.new.seat ≡ blocks_of reader.old.seat }
         ensures number { number_of reader.new.seat ≡ number_of reader.old.seat }
         ensures view { reading reader.new.seat ≡ taken_to (reading reader.old.seat) self.now.sizes.width }
         ensures words { into.new ≡ block (blocks_of reader.old.seat) (reading reader.old.seat).next }
@@ -160,9 +164,10 @@ impl History {
 
     /// Stores that the reader has passed its next block, which it has fetched.
     pub fn pass(&self, reader: &mut Reader)
-        requires seat { IsAt self.now.table.shared.table_id self.now.sizes reader.old.seat }
+        requires at { IsAt self.now.table.shared.table_id self.now.sizes reader.old.seat }
         requires fetched { (reading reader.old.seat).taken ≡ self.now.sizes.width }
-        ensures seat { IsSamePlace reader.old.seat reader.new.seat }
+        ensures at { IsAt self.now.table.shared.table_id self.now.sizes reader.new.seat }
+        ensures blocks { blocks_of reader.new.seat ≡ blocks_of reader.old.seat }
         ensures number { number_of reader.new.seat ≡ number_of reader.old.seat }
         ensures view { reading reader.new.seat ≡ passed_view (reading reader.old.seat) }
     {
