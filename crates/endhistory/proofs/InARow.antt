@@ -60,9 +60,11 @@ pub asked_one : (z : Sizes) (w v v' : Writing) (r n : ℕ) → length w.known �
     → HasAsked z w v' (r + 1) × (get_or v'.known r 0 ≡ n) × ((k : ℕ) → k < r → w.next < get_or v'.known k 0 + z.slots)
 asked_one z w v v' r n wide l is le h =
     let inside : r < length v.known = let e = h.asks.each_known in omega arith in
-    subst (λ (x : Writing). HasAsked z w x (r + 1) × (get_or x.known r 0 ≡ n) × ((k : ℕ) → k < r → w.next < get_or x.known k 0 + z.slots)) (sym is)
-        (asks_more z w v r n inside le h.asks, get_or-set_same v.known r n 0 inside,
-        λ k m. let f = h.free k m in let a = risen v.known r n inside le k in let e : v.next ≡ w.next = h.asks.next in omega arith)
+    subst (λ (x : Writing). HasAsked z w x (r + 1) × (get_or x.known r 0 ≡ n) × ((k : ℕ) → k < r → w.next < get_or x.known k 0 + z.slots)) (sym is) (
+      asks_more z w v r n inside le h.asks,
+      get_or-set_same v.known r n 0 inside,
+      λ k m. let f = h.free k m in let a = risen v.known r n inside le k in let e : v.next ≡ w.next = h.asks.next in omega arith,
+    )
 
 -- and had passed enough too
 pub free_one : (z : Sizes) (w v' : Writing) (r n : ℕ) → w.next < n + z.slots → HasAsked z w v' (r + 1) × (get_or v'.known r 0 ≡ n) × ((k : ℕ) → k < r → w.next < get_or v'.known k 0 + z.slots) → AllFree z w v' (r + 1)
@@ -86,7 +88,7 @@ fill_next z key same slots s t i word x next w now free room within place is =
       word_is = is ∙ ap (λ (k : ℕ). get_or (block (blocks_of s) k) i 0) now;
     } in
     subst (λ (k : Sizes). Allows (Bounded k) slots t.id t.me word (λ _. x) (λ _. filled (step slots word x 0 none) t.me x)) same
-        (fills z slots t.id t.me (filled_to (writing s) i) word x (ap (λ (m : Here). m.0.role) w.2) (subst (λ (b : Blocks). FillNeeds z b (filled_to (writing s) i) word x) (sym blocks) needs))
+    (fills z slots t.id t.me (filled_to (writing s) i) word x (ap (λ (m : Here). m.0.role) w.2) (subst (λ (b : Blocks). FillNeeds z b (filled_to (writing s) i) word x) (sym blocks) needs))
 
 -- a publish after all fills is allowed
 pub publish_next : (z key : Sizes) → z ≡ key → (slots : ℕ) (s t : Place) (x : ℕ) → WritesWith s (filled_to (writing s) z.width) t → x ≡ (writing s).next + 1
@@ -99,16 +101,17 @@ pub take_next : (z key : Sizes) → z ≡ key → (slots : ℕ) (s t : Place) (i
     → word ≡ data_word z next i → Allows (Bounded key) slots t.id t.me word (λ n. n) (taken (step slots word 0 0 none) t.me)
 take_next z key same slots s t i word next w now ready room place =
     subst (λ (k : Sizes). Allows (Bounded k) slots t.id t.me word (λ n. n) (taken (step slots word 0 0 none) t.me)) same
-        (takes z slots t.id t.me (number_of s) (taken_to (reading s) i) word (ap (λ (m : Here). m.0.role) w.2)
-            (record { ready = ready; room = room; place = place ∙ ap (λ (k : ℕ). data_word z k i) now }))
+    (takes z slots t.id t.me (number_of s) (taken_to (reading s) i) word (ap (λ (m : Here). m.0.role) w.2)
+    (record { ready = ready; room = room; place = place ∙ ap (λ (k : ℕ). data_word z k i) now }))
 
 pub take_left : (s t u : Place) (i word next n slots : ℕ) → ReadsWith s (taken_to (reading s) i) t → next ≡ (reading s).next → u.table_id ≡ t.table_id → u.id ≡ t.id → taken (step slots word 0 0 none) t.me n u.me
     → ReadsWith s (taken_to (reading s) (i + 1)) u × (n ≡ get_or (block (blocks_of s) next) i 0)
 take_left s t u i word next n slots w now a b told =
     let did = told (number_of s) (taken_to (reading s) i) (ap (λ (m : Here). m.0.role) w.2) in
-    let blocks : t.me.0.blocks ≡ s.me.0.blocks = ap (λ (m : Here). m.0.blocks) w.2 in
-    (readed s t u (taken_to (reading s) i) (taken_to (reading s) (i + 1)) w a b did.0,
-    did.1 ∙ ap (λ (c : Blocks). get_or (block c (reading s).next) i 0) blocks ∙ ap (λ (k : ℕ). get_or (block (blocks_of s) k) i 0) (sym now))
+    let blocks : t.me.0.blocks ≡ s.me.0.blocks = ap (λ (m : Here). m.0.blocks) w.2 in (
+      readed s t u (taken_to (reading s) i) (taken_to (reading s) (i + 1)) w a b did.0,
+      did.1 ∙ ap (λ (c : Blocks). get_or (block c (reading s).next) i 0) blocks ∙ ap (λ (k : ℕ). get_or (block (blocks_of s) k) i 0) (sym now),
+    )
 
 -- the words that were loaded so far, and one more
 pub loaded_more : (into words : List ℕ) (i n : ℕ) → i < length into → n ≡ get_or words i 0 → ((j : ℕ) → j < i → get_or into j 0 ≡ get_or words j 0) → (j : ℕ) → j < i + 1 → get_or (set into i n) j 0 ≡ get_or words j 0

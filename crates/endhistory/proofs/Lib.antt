@@ -4,3 +4,4 @@ pub mod PartsKept
 pub mod SeatsKept
 pub mod StepsAllowed
 pub mod InARow
+pub mod Counted

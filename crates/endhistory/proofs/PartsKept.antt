@@ -21,30 +21,32 @@ module _ (z : Sizes) (blocks : Blocks) (words : List ℕ) (w : Writing) (q : ℕ
       let le : get_or w.known r 0 ≤ n = let k = p.known r l in omega arith in
       let inside : r < length w.known = let e = p.each_known in omega arith in
       let rises : (k : ℕ) → get_or w.known k 0 ≤ get_or (set w.known r n) k 0 = risen w.known r n inside le in
-      let freer : IsFree z w → IsFree z (checked_view w r n) = λ f k m. let a = f k m in let b = rises k in omega arith in
-      (record {
-        published = p.published;
-        within = p.within;
-        passed = p.passed;
-        behind = p.behind;
-        window = p.window;
-        known = λ k m. dite (ℕ_discrete k r)
-            (λ e. subst (λ (j : ℕ). get_or (set w.known r n) j 0 ≤ (q j).next) (sym e) (let s = get_or-set_same w.known r n 0 inside in omega arith))
-            (λ other. let a = p.known k m in let s = get_or-set_other w.known r k n 0 other in omega arith);
-        each_known = length-set w.known r n ∙ p.each_known;
-        filling = λ some. let f = p.filling some in (freer f.0, f.1);
-        seen = p.seen;
-        taking = p.taking;
-        stored = λ c a b ex. p.stored c a b (λ e f. ex e (freer f));
-        begun = p.begun;
-      }, le)
+      let freer : IsFree z w → IsFree z (checked_view w r n) = λ f k m. let a = f k m in let b = rises k in omega arith in (
+        record {
+          published = p.published;
+          within = p.within;
+          passed = p.passed;
+          behind = p.behind;
+          window = p.window;
+          known = λ k m. dite (ℕ_discrete k r)
+              (λ e. subst (λ (j : ℕ). get_or (set w.known r n) j 0 ≤ (q j).next) (sym e) (let s = get_or-set_same w.known r n 0 inside in omega arith))
+              (λ other. let a = p.known k m in let s = get_or-set_other w.known r k n 0 other in omega arith);
+          each_known = length-set w.known r n ∙ p.each_known;
+          filling = λ some. let f = p.filling some in (freer f.0, f.1);
+          seen = p.seen;
+          taking = p.taking;
+          stored = λ c a b ex. p.stored c a b (λ e f. ex e (freer f));
+          begun = p.begun;
+        },
+        le,
+      )
 
   pub fills : (word x : ℕ) → 0 < z.slots → length words ≡ word_count z → FillNeeds z blocks w word x → Parts z blocks words w q → Parts z blocks (set words word x) (filled_view w) q
   fills word x some wide needs p =
       let at : ℕ = data_word z w.next w.filled in
       let is : word ≡ at = needs.place in
       let past : (k : ℕ) → k < 1 + z.readers → get_or (set words word x) k 0 ≡ get_or words k 0 =
-          λ k l. get_or-set_other words word k x 0 (λ e. data_past z w.next w.filled k l (sym is ∙ sym e)) in
+      λ k l. get_or-set_other words word k x 0 (λ e. data_past z w.next w.filled k l (sym is ∙ sym e)) in
       let inside : word < length words = let d = data_inside z w.next w.filled some needs.room in omega arith in
       record {
         published = past 0 (omega arith) ∙ p.published;
@@ -59,11 +61,11 @@ module _ (z : Sizes) (blocks : Blocks) (words : List ℕ) (w : Writing) (q : ℕ
         taking = p.taking;
         stored = λ c l m ex. same_slot z blocks words (set words word x) c z.width
             (λ i b. get_or-set_other words word (data_word z c i) x 0 (λ e. slot_apart z c w.next i w.filled b needs.room
-                (λ turn. dite (ℕ_discrete w.next (c + z.slots)) (λ last. ex last needs.free) (λ other. let same : c ≡ w.next = one_turn c w.next z.slots (omega arith) (omega arith) turn in omega arith)) (e ∙ is)))
+            (λ turn. dite (ℕ_discrete w.next (c + z.slots)) (λ last. ex last needs.free) (λ other. let same : c ≡ w.next = one_turn c w.next z.slots (omega arith) (omega arith) turn in omega arith)) (e ∙ is)))
             (p.stored c l m ex);
         begun = λ i l. dite (ℕ_discrete i w.filled)
             (λ e. subst (λ (j : ℕ). get_or (set words word x) (data_word z w.next j) 0 ≡ get_or (block blocks w.next) j 0) (sym e)
-                (subst (λ (k : ℕ). get_or (set words word x) k 0 ≡ get_or (block blocks w.next) w.filled 0) is (get_or-set_same words word x 0 inside ∙ needs.word_is)))
+            (subst (λ (k : ℕ). get_or (set words word x) k 0 ≡ get_or (block blocks w.next) w.filled 0) is (get_or-set_same words word x 0 inside ∙ needs.word_is)))
             (λ other. get_or-set_other words word (data_word z w.next i) x 0 (λ e. other (let same : data_word z w.next i ≡ data_word z w.next w.filled = e ∙ is in omega arith)) ∙ p.begun i (omega arith));
       }
 
@@ -113,19 +115,21 @@ module _ (z : Sizes) (blocks : Blocks) (words : List ℕ) (w : Writing) (q : ℕ
       → Parts z blocks words w (put q r (looked_view (q r) n)) × ((q r).seen ≤ n) × (n ≤ length blocks)
   looks r n l is p =
       let now : n ≡ w.next = is ∙ p.published in
-      let before = p.seen r l in
-      (reads words r (looked_view (q r) n) (λ _ _. refl) l (p.passed r l) (p.behind r l) (p.window r l) (p.known r l) (omega arith) (λ some. let t = p.taking r l some in omega arith) p,
-      omega arith,
-      let b = p.within in omega arith)
+      let before = p.seen r l in (
+        reads words r (looked_view (q r) n) (λ _ _. refl) l (p.passed r l) (p.behind r l) (p.window r l) (p.known r l) (omega arith) (λ some. let t = p.taking r l some in omega arith) p,
+        omega arith,
+        let b = p.within in omega arith,
+      )
 
   pub takes : (r n word : ℕ) → r < z.readers → TakeNeeds z (q r) word → n ≡ get_or words word 0 → Parts z blocks words w q
       → Parts z blocks words w (put q r (taken_view (q r))) × (n ≡ get_or (block blocks (q r).next) (q r).taken 0)
   takes r n word l needs is p =
       let ready : (q r).next < (q r).seen = needs.ready in
       let seen = p.seen r l in
-      let known = p.known r l in
-      (reads words r (taken_view (q r)) (λ _ _. refl) l (p.passed r l) (p.behind r l) (p.window r l) known seen (λ _. ready) p,
-      is ∙ ap (λ (k : ℕ). get_or words k 0) needs.place ∙ p.stored (q r).next (omega arith) (p.window r l) (λ e free. let f = free r l in omega arith) (q r).taken needs.room)
+      let known = p.known r l in (
+        reads words r (taken_view (q r)) (λ _ _. refl) l (p.passed r l) (p.behind r l) (p.window r l) known seen (λ _. ready) p,
+        is ∙ ap (λ (k : ℕ). get_or words k 0) needs.place ∙ p.stored (q r).next (omega arith) (p.window r l) (λ e free. let f = free r l in omega arith) (q r).taken needs.room,
+      )
 
   pub passes : (r word x : ℕ) → r < z.readers → 1 + r < length words → 0 < z.width → PassNeeds z r (q r) word x → Parts z blocks words w q
       → Parts z blocks (set words word x) w (put q r (passed_view (q r)))
@@ -136,13 +140,13 @@ module _ (z : Sizes) (blocks : Blocks) (words : List ℕ) (w : Writing) (q : ℕ
       let window = p.window r l in
       let known = p.known r l in
       reads (set words word x) r (passed_view (q r)) (λ k other. get_or-set_other words word k x 0 (λ e. other (e ∙ at))) l
-          (subst (λ (k : ℕ). get_or (set words k x) (1 + r) 0 ≡ (q r).next + 1) (sym at) (get_or-set_same words (1 + r) x 0 inside ∙ needs.word_is))
-          (omega arith) (omega arith) (omega arith) seen (λ some. absurd (omega arith)) p
+      (subst (λ (k : ℕ). get_or (set words k x) (1 + r) 0 ≡ (q r).next + 1) (sym at) (get_or-set_same words (1 + r) x 0 inside ∙ needs.word_is))
+      (omega arith) (omega arith) (omega arith) seen (λ some. absurd (omega arith)) p
 
   -- where the writer may fill, every reader has passed each older block of the slot
   pub passed_older : 0 < z.slots → Parts z blocks words w q → IsFree z w → (c r : ℕ) → c < w.next → c % z.slots ≡ w.next % z.slots → r < z.readers → c < get_or words (1 + r) 0
   passed_older some p free c r older turn l = dite (dec_le w.next (c + z.slots))
       (λ near. dite (ℕ_discrete w.next (c + z.slots))
-          (λ last. let f = free r l in let k = p.known r l in let e = p.passed r l in omega arith)
-          (λ other. let same : c ≡ w.next = one_turn c w.next z.slots (omega arith) (omega arith) turn in absurd (omega arith)))
+      (λ last. let f = free r l in let k = p.known r l in let e = p.passed r l in omega arith)
+      (λ other. let same : c ≡ w.next = one_turn c w.next z.slots (omega arith) (omega arith) turn in absurd (omega arith)))
       (λ far. let f = free r l in let k = p.known r l in let e = p.passed r l in omega arith)

@@ -151,7 +151,7 @@ module _ (z : Sizes) where
   adds_writer id v blocks is s r at =
       let k : (r.dealt ≡ 0) × (id ≡ r.dealer) = subst (Knows z r.dealt r.dealer r.writer r.writing r.seat_of r.reading id) is (r.each_seat id v at) in
       let only : (j : ℕ) (d : View) → j ≢ id → get_elem? s.views j ≡ some d → ⊥ =
-          λ j d other e. other (alone r.dealer r.writer r.writing r.seat_of r.reading j r.dealt k.0 d.role (r.each_seat j d e) ∙ sym k.1) in
+      λ j d other e. other (alone r.dealer r.writer r.writing r.seat_of r.reading j r.dealt k.0 d.role (r.each_seat j d e) ∙ sym k.1) in
       record {
         blocks = blocks;
         dealt = 1;

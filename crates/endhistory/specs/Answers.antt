@@ -20,3 +20,7 @@ Finds z (Held r n) w w' = (r < z.readers) × (slice_index w'.known r ≡ n) × (
 abbrev pub Says : Look → Reading → Type 0
 Says Ready y = y.next < y.seen
 Says (NotYet n) y = (n ≡ y.seen) × (n ≤ y.next)
+
+abbrev pub IsReady : Look → Type 0
+IsReady Ready = Unit {0}
+IsReady (NotYet n) = ⊥

@@ -68,9 +68,9 @@ pub(crate) fn open<T: BlockTag>(
     requires sizes { IsSizes sizes }
     requires blocks { (length (T.blocks tag.now) ≤ 2 ^ 62) × AreWide sizes.width (T.blocks tag.now) }
     ensures history { IfOk result (λ t. t.0.sizes ≡ sizes) }
-    ensures writer { IfOk result (λ t. IsNewWriter t.0.table.shared.table_id sizes (T.blocks tag.now) t.1.seat) }
+    ensures writer { IfOk result (λ t. IsNewWriter t.0.table.shared.table_id t.0.sizes (T.blocks tag.now) t.1.seat) }
     ensures count { IfOk result (λ t. length t.2.items ≡ sizes.readers) }
-    ensures all { IfOk result (λ t. All (λ r. IsNewReader t.0.table.shared.table_id sizes (T.blocks tag.now) r.seat) t.2.items) }
+    ensures all { IfOk result (λ t. All (λ r. IsNewReader t.0.table.shared.table_id t.0.sizes (T.blocks tag.now) r.seat) t.2.items) }
     ensures numbers { IfOk result (λ t. map (λ r. number_of r.seat) t.2.items ≡ range_with_len 0 sizes.readers) }
 {
     let words = vec![in alloc; 0; 1 + sizes.readers + sizes.slots * sizes.width]?;

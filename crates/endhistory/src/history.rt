@@ -4,7 +4,7 @@ ghost use Rattle.std.specs.List.{range_with_len};
 ghost use Rattle.endhistory.specs.Blocks.{block, word_count, sizes_of, AreWide, IsSizes};
 ghost use Rattle.endhistory.specs.Steps.{IsFree, published_view, looked_view, passed_view};
 ghost use Rattle.endhistory.specs.Rule.{start_writing, start_reading};
-ghost use Rattle.endhistory.specs.Answers.{Finds, Says};
+ghost use Rattle.endhistory.specs.Answers.{Finds, IsReady, Says};
 ghost use Rattle.endhistory.specs.Seats.{IsAt, IsNewReader, IsNewWriter, IsWriter, IsReader, writing, reading, number_of, blocks_of, taken_to};
 
 use crate::answers::{Look, Vacancy};
@@ -70,9 +70,9 @@ impl History {
         requires sizes { IsSizes (sizes_of blocks width readers) }
         requires blocks { (length (T.blocks tag.now) ≤ 2 ^ 62) × AreWide width (T.blocks tag.now) }
         ensures history { IfOk result (λ t. t.0.sizes ≡ sizes_of blocks width readers) }
-        ensures writer { IfOk result (λ t. IsNewWriter t.0.table.shared.table_id (sizes_of blocks width readers) (T.blocks tag.now) t.1.seat) }
+        ensures writer { IfOk result (λ t. IsNewWriter t.0.table.shared.table_id t.0.sizes (T.blocks tag.now) t.1.seat) }
         ensures count { IfOk result (λ t. length t.2.items ≡ readers) }
-        ensures all { IfOk result (λ t. All (λ r. IsNewReader t.0.table.shared.table_id (sizes_of blocks width readers) (T.blocks tag.now) r.seat) t.2.items) }
+        ensures all { IfOk result (λ t. All (λ r. IsNewReader t.0.table.shared.table_id t.0.sizes (T.blocks tag.now) r.seat) t.2.items) }
         ensures numbers { IfOk result (λ t. map (λ r. number_of r.seat) t.2.items ≡ range_with_len 0 readers) }
     {
         let sizes = Sizes {
@@ -133,6 +133,7 @@ impl History {
         ensures view { reading reader.new.seat ≡ looked_view (reading reader.old.seat) (reading reader.new.seat).seen }
         ensures rising { (reading reader.old.seat).seen ≤ (reading reader.new.seat).seen }
         ensures answer { Says result (reading reader.new.seat) }
+        ensures published { (reading reader.old.seat).next < (reading reader.old.seat).seen → IsReady result }
     {
         let published = self.table.shared.load::<steps::Look>(&mut reader.seat, 0);
         if reader.next < published {

@@ -5,6 +5,8 @@ ghost use Rattle.endhistory.specs.Seats.{IsAt, writing, reading, blocks_of};
 use super::*;
 use std::test::*;
 
+mod across_threads;
+
 const TAG: CountTag = CountTag {
     base: 100,
     width: 2,
@@ -56,9 +58,21 @@ fn a_history_call_by_call(rt: HostRuntime) -> Result<(), Fail> {
     let mut first = readers.pop().ok_or("two readers")?;
     assert!(rt; history.look(&mut first) == Look::NotYet { published: 0 });
     assert!(rt; writes(&history, &mut writer, &[100, 101]));
-    assert!(rt; history.vacancy(&mut writer) == Vacancy::Held { reader: 0, passed: 0 });
+    assert!(rt;
+        history.vacancy(&mut writer)
+            == Vacancy::Held {
+                reader: 0,
+                passed: 0
+            }
+    );
     assert!(rt; reads(&history, &mut first, [100, 101]));
-    assert!(rt; history.vacancy(&mut writer) == Vacancy::Held { reader: 1, passed: 0 });
+    assert!(rt;
+        history.vacancy(&mut writer)
+            == Vacancy::Held {
+                reader: 1,
+                passed: 0
+            }
+    );
     assert!(rt; reads(&history, &mut second, [100, 101]));
     assert!(rt; writes(&history, &mut writer, &[102, 103]));
     assert!(rt; reads(&history, &mut first, [102, 103]));

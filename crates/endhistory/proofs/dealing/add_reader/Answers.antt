@@ -14,6 +14,8 @@ split_seat-requires c =
     let id = c.args.seat.now.id in
     let v = c.args.seat.now.me.0 in
     let words : top.table_id.words ≡ word_count top.key = c.requires.at.0.words in
-    let room : c.args.number < v.sizes.readers = subst (λ (z : Sizes). c.args.number < z.readers) (sym c.requires.at.0.sizes) c.requires.inside in
-    (c.requires.at.0.table, omega arith,
-    subst (λ (n : ℕ). Splits (Bounded top.key) id v (in_role v (Nobody (n + 1))) (in_role v (AsReader n start_reading))) (sym (ap dealt_of c.requires.at.1)) (adds_reader top.key id v c.args.number c.requires.at.1 room))
+    let room : c.args.number < v.sizes.readers = subst (λ (z : Sizes). c.args.number < z.readers) (sym c.requires.at.0.sizes) c.requires.inside in (
+      c.requires.at.0.table,
+      omega arith,
+      subst (λ (n : ℕ). Splits (Bounded top.key) id v (in_role v (Nobody (n + 1))) (in_role v (AsReader n start_reading))) (sym (ap dealt_of c.requires.at.1)) (adds_reader top.key id v c.args.number c.requires.at.1 room),
+    )

@@ -29,9 +29,10 @@ loop-number-preserved c =
       view = ap (λ (s : Place). reading s) c.new.ensures ∙ ap (λ (m : Here). reading_of m.0.role) place.1;
     } in
     let numbered : number_of reader.seat ≡ n =
-        ap (λ (s : Place). number_of s) c.new.ensures ∙ ap (λ (m : Here). number_in m.0.role) c.add_reader-place.ensures.reader.1 ∙ ap (λ (v : View). dealt_of v.role) inv.1 in
-    (c.add_reader-place.ensures.seat.0 ∙ inv.0,
-    c.add_reader-place.ensures.seat.1 ∙ ap dealing inv.1,
-    search rules,
-    subst (λ (rs : List Reader). All New rs) (sym items) (All-append New c.loop-number.readers.items (reader ∷ []) inv.3 (all_one New reader new)),
-    ap (map number) items ∙ map-append number c.loop-number.readers.items (reader ∷ []) ∙ ap (λ (l : List ℕ). l ++ number_of reader.seat ∷ []) inv.4 ∙ ap (λ (k : ℕ). range_with_len 0 n ++ k ∷ []) numbered ∙ sym (range_more n))
+    ap (λ (s : Place). number_of s) c.new.ensures ∙ ap (λ (m : Here). number_in m.0.role) c.add_reader-place.ensures.reader.1 ∙ ap (λ (v : View). dealt_of v.role) inv.1 in (
+      c.add_reader-place.ensures.seat.0 ∙ inv.0,
+      c.add_reader-place.ensures.seat.1 ∙ ap dealing inv.1,
+      search rules,
+      subst (λ (rs : List Reader). All New rs) (sym items) (All-append New c.loop-number.readers.items (reader ∷ []) inv.3 (all_one New reader new)),
+      ap (map number) items ∙ map-append number c.loop-number.readers.items (reader ∷ []) ∙ ap (λ (l : List ℕ). l ++ number_of reader.seat ∷ []) inv.4 ∙ ap (λ (k : ℕ). range_with_len 0 n ++ k ∷ []) numbered ∙ sym (range_more n),
+    )

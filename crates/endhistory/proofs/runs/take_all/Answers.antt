@@ -15,9 +15,11 @@ load-requires c =
     let words : top.table_id.words ≡ word_count z = c.requires.at.0.words in
     let wide : length c.args.into.now ≡ z.width = c.requires.wide.0 in
     let inside : i < length c.args.into.now = c.loop-i-test.true in
-    let within : start.result + z.width ≤ word_count z = start.ensures.within in
-    (inv.0.0 ∙ c.requires.at.0.table, omega arith,
-    take_next z top.key c.requires.at.2 top.table_id.slots c.args.seat.now c.loop-i.seat i (start.result + i) c.args.next inv.0 c.requires.reader.1 c.requires.reader.3 (omega arith) (ap (λ (k : ℕ). k + i) start.ensures.start))
+    let within : start.result + z.width ≤ word_count z = start.ensures.within in (
+      inv.0.0 ∙ c.requires.at.0.table,
+      omega arith,
+      take_next z top.key c.requires.at.2 top.table_id.slots c.args.seat.now c.loop-i.seat i (start.result + i) c.args.next inv.0 c.requires.reader.1 c.requires.reader.3 (omega arith) (ap (λ (k : ℕ). k + i) start.ensures.start),
+    )
 
 pub loop-i-preserved : goal.loop-i-preserved
 loop-i-preserved c =

@@ -8,6 +8,8 @@ store-requires c =
     let history = c.args.self.now in
     let shared = history.table.shared in
     let writer = c.args.writer.now in
-    let words : shared.table_id.words ≡ word_count history.sizes = c.requires.at.words in
-    (c.fill_all.ensures.0 ∙ c.requires.at.table, omega arith,
-    publish_next history.sizes shared.key history.keyed shared.table_id.slots writer.seat c.fill_all.new.seat (writer.next + 1) c.fill_all.ensures (ap (λ (k : ℕ). k + 1) writer.counted.0))
+    let words : shared.table_id.words ≡ word_count history.sizes = c.requires.at.words in (
+      c.fill_all.ensures.0 ∙ c.requires.at.table,
+      omega arith,
+      publish_next history.sizes shared.key history.keyed shared.table_id.slots writer.seat c.fill_all.new.seat (writer.next + 1) c.fill_all.ensures (ap (λ (k : ℕ). k + 1) writer.counted.0),
+    )
