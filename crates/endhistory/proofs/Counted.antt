@@ -1,9 +1,8 @@
 -- The blocks of a counting tag.
-use Rattle.std.proofs.Common.{◌≡◌, ℕ, ◌+◌, ◌*◌, ◌<◌, ◌≤◌, List, [], length, map, get_or, sym, ap, ◌∙◌, subst, arith}
-use Rattle.std.specs.List.{range_with_len}
+use Rattle.std.proofs.Common.{◌≡◌, ℕ, ◌+◌, ◌*◌, ◌<◌, List, [], length, get_or, sym, ap, ◌∙◌, subst, arith}
 use Rattle.std.proofs.lemmas.List.{ext_get_or}
 use Rattle.std.proofs.lemmas.List.FromFn.{get_or-map-range_with_len, length-map-range_with_len}
-use Rattle.endhistory.specs.Blocks.{Blocks, block, AreWide, count_block, count_blocks}
+use Rattle.endhistory.specs.Blocks.{block, AreWide, count_block, count_blocks}
 
 module _ (base width count : ℕ) where
   pub counted_length : length (count_blocks base width count) ≡ count

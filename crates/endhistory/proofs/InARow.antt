@@ -1,5 +1,5 @@
 -- What several steps of one seat in a row leave, and that each of them is allowed.
-use Rattle.std.proofs.Common.{◌≡◌, ◌≢◌, ℕ, zero, suc, ◌+◌, ◌*◌, ◌<◌, ◌≤◌, List, [], ◌∷◌, ◌++◌, length, map, get_or, set, sym, refl, ap, ◌∙◌, subst, append_assoc, arith}
+use Rattle.std.proofs.Common.{◌≡◌, ℕ, zero, suc, ◌+◌, ◌<◌, ◌≤◌, List, [], ◌∷◌, ◌++◌, length, get_or, set, sym, refl, ap, ◌∙◌, subst, append_assoc, arith}
 use mathlib.Core.Logic.{dite}
 use mathlib.Core.Option.{none}
 use native.Mathlib.Decide.{ℕ_discrete}
@@ -12,7 +12,7 @@ use Rattle.endhistory.specs.declared.views.Writing.{Writing}
 use Rattle.endhistory.specs.declared.views.Reading.{Reading}
 use Rattle.endhistory.specs.declared.views.Role.TheVariants.{AsWriter, AsReader}
 use Rattle.endhistory.specs.Blocks.{Blocks, block, data_word}
-use Rattle.endhistory.specs.Steps.{IsFree, CheckNeeds, FillNeeds, TakeNeeds, PublishNeeds, PassNeeds, checked_view, taken_view, published_view}
+use Rattle.endhistory.specs.Steps.{IsFree, FillNeeds, checked_view}
 use Rattle.endhistory.specs.Rule.{Bounded}
 use Rattle.endhistory.specs.Tells.{Here, in_role, Writes, Reads, checked, filled, taken, published}
 use Rattle.endhistory.specs.Seats.{Place, WritesWith, ReadsWith, HasAsked, AllFree, filled_to, taken_to, writing, writing_of, reading, number_of, blocks_of}

@@ -1,5 +1,5 @@
 -- Each kind of step keeps the six parts of the rule: over plain data, with no seat.
-use Rattle.std.proofs.Common.{◌≡◌, ◌≢◌, ℕ, ◌+◌, ◌*◌, ◌%◌, ◌<◌, ◌≤◌, List, length, get_or, set, sym, refl, ap, ◌∙◌, subst, arith}
+use Rattle.std.proofs.Common.{◌≡◌, ◌≢◌, ℕ, ◌+◌, ◌%◌, ◌<◌, ◌≤◌, List, length, get_or, set, sym, refl, ap, ◌∙◌, subst, arith}
 use mathlib.Core.Logic.{dite}
 use native.Mathlib.Decide.{dec_le, ℕ_discrete}
 use Rattle.std.proofs.lemmas.List.{get_or-set_other, get_or-set_same, length-set}
@@ -8,7 +8,7 @@ use Rattle.endhistory.specs.declared.views.Sizes.{Sizes}
 use Rattle.endhistory.specs.declared.views.Writing.{Writing}
 use Rattle.endhistory.specs.declared.views.Reading.{Reading}
 use Rattle.endhistory.specs.Blocks.{Blocks, block, data_word, word_count}
-use Rattle.endhistory.specs.Steps.{IsFree, CheckNeeds, FillNeeds, PublishNeeds, TakeNeeds, PassNeeds, checked_view, filled_view, published_view, looked_view, taken_view, passed_view}
+use Rattle.endhistory.specs.Steps.{IsFree, FillNeeds, PublishNeeds, TakeNeeds, PassNeeds, checked_view, filled_view, published_view, looked_view, taken_view, passed_view}
 use Rattle.endhistory.specs.Rule.{IsStored, Parts}
 use Rattle.endhistory.proofs.Functions.{put, put_each}
 use Rattle.endhistory.proofs.Slots.{risen, slot_apart, data_inside, data_past, same_slot, set_count}

@@ -1,10 +1,10 @@
 -- Slots lie apart, and within the table.
-use Rattle.std.proofs.Common.{◌≡◌, ◌≢◌, ℕ, suc, ◌+◌, ◌*◌, ◌%◌, ◌<◌, ◌≤◌, List, length, get_or, set, sym, refl, ap, ◌∙◌, subst, mul-le-mul_right, suc-mul, lt_of_not-le, mod-lt, arith}
+use Rattle.std.proofs.Common.{◌≡◌, ◌≢◌, ℕ, suc, ◌+◌, ◌*◌, ◌%◌, ◌<◌, ◌≤◌, List, length, get_or, set, sym, ◌∙◌, subst, mul-le-mul_right, suc-mul, lt_of_not-le, mod-lt, arith}
 use mathlib.Core.Logic.{dite}
 use native.Mathlib.Decide.{dec_le, ℕ_discrete}
 use Rattle.std.proofs.lemmas.List.{get_or-set_other, get_or-set_same}
 use Rattle.endhistory.specs.declared.views.Sizes.{Sizes}
-use Rattle.endhistory.specs.Blocks.{Blocks, block, data_word, word_count}
+use Rattle.endhistory.specs.Blocks.{Blocks, data_word, word_count}
 use Rattle.endhistory.specs.Rule.{IsStored}
 
 further : (x y n : ℕ) → x < y → x * n + n ≤ y * n

@@ -1,22 +1,21 @@
 -- Each kind of step, made where its needs are met, keeps the rule and tells the view after it.
-use Rattle.std.proofs.Common.{◌≡◌, ◌≢◌, ℕ, ◌+◌, ◌*◌, ◌<◌, ◌≤◌, List, length, get_or, set, sym, refl, ap, ◌∙◌, subst, arith}
-use mathlib.Core.Option.{some, none}
-use lib.ListN.{get_elem?}
+use Rattle.std.proofs.Common.{◌≡◌, ℕ, ◌+◌, ◌<◌, ◌≤◌, List, length, get_or, set, sym, refl, ap, ◌∙◌, subst, arith}
+use mathlib.Core.Option.{none}
 use Rattle.std.proofs.lemmas.List.{length-set, set-get_or}
-use Rattle.atomic_table.specs.Table.{State, Allows, step, keeps}
+use Rattle.atomic_table.specs.Table.{Allows, step, keeps}
 use Rattle.endhistory.specs.declared.views.Sizes.{Sizes}
 use Rattle.endhistory.specs.declared.views.Writing.{Writing}
 use Rattle.endhistory.specs.declared.views.Reading.{Reading}
 use Rattle.endhistory.specs.declared.views.Role.{Role}
 use Rattle.endhistory.specs.declared.views.Role.TheVariants.{AsWriter, AsReader}
 use Rattle.endhistory.specs.declared.views.View.{View}
-use Rattle.endhistory.specs.Blocks.{Blocks, block, word_count}
+use Rattle.endhistory.specs.Blocks.{block, word_count}
 use Rattle.endhistory.specs.Steps.{CheckNeeds, FillNeeds, PublishNeeds, TakeNeeds, PassNeeds, checked_view, filled_view, published_view, looked_view, taken_view, passed_view}
 use Rattle.endhistory.specs.Rule.{Parts, Bounded}
 use Rattle.endhistory.specs.Tells.{Here, in_role, Writes, Reads, checked, filled, published, looked, taken, passed}
 use Rattle.endhistory.specs.Seats.{writing_of, reading_of, number_in}
 use Rattle.endhistory.proofs.Functions.{put}
-use Rattle.endhistory.proofs.SeatsKept.{St, writer_knows, reader_knows, writer_parts, reader_parts, writer_step, reader_step}
+use Rattle.endhistory.proofs.SeatsKept.{St, reader_knows, writer_parts, reader_parts, writer_step, reader_step}
 use Rattle.endhistory.proofs.PartsKept as kept
 
 -- a load leaves the words

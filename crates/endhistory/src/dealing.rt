@@ -3,9 +3,8 @@ ghost use Rattle.std.specs.Prelude.{◌≡◌, ◌+◌, ◌<◌, ◌≤◌, [], 
 ghost use Rattle.std.specs.List.{range_with_len};
 ghost use Rattle.endhistory.specs.declared.views.Role.TheVariants.{Unopened, Nobody};
 ghost use Rattle.endhistory.specs.Blocks.{AreWide, IsSizes};
-ghost use Rattle.endhistory.specs.Rule.{start_writing, start_reading};
-ghost use Rattle.endhistory.specs.Tells.{opened, writer_view, reader_view, dealing, in_role};
-ghost use Rattle.endhistory.specs.Seats.{IsAt, IsNewReader, IsNewWriter, writing, reading, number_of, blocks_of};
+ghost use Rattle.endhistory.specs.Tells.{opened, writer_view, reader_view, dealing};
+ghost use Rattle.endhistory.specs.Seats.{IsAt, IsNewReader, IsNewWriter, number_of, blocks_of};
 
 use crate::blocks::BlockTag;
 use crate::history::{History, Reader, Writer};

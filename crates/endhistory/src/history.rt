@@ -1,5 +1,5 @@
 //! A bounded history, its writer and its readers.
-ghost use Rattle.std.specs.Prelude.{◌≡◌, ◌+◌, ◌<◌, ◌≤◌, ◌^◌, [], length, All, IfOk, map, slice_index};
+ghost use Rattle.std.specs.Prelude.{◌≡◌, ◌+◌, ◌<◌, ◌≤◌, ◌^◌, length, All, IfOk, map};
 ghost use Rattle.std.specs.List.{range_with_len};
 ghost use Rattle.endhistory.specs.Blocks.{block, word_count, sizes_of, AreWide, IsSizes};
 ghost use Rattle.endhistory.specs.Steps.{IsFree, published_view, looked_view, passed_view};

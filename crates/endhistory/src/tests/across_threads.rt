@@ -1,6 +1,6 @@
 //! A writer and three readers, each in a thread of its own.
 ghost use Rattle.std.specs.Prelude.{◌≡◌, ◌+◌, ◌*◌, ◌<◌, ◌≤◌, length, All, IfOk};
-ghost use Rattle.endhistory.specs.Blocks.{block, count_block, count_blocks};
+ghost use Rattle.endhistory.specs.Blocks.{block, count_blocks};
 ghost use Rattle.endhistory.specs.Steps.{IsFree};
 ghost use Rattle.endhistory.specs.Seats.{IsAt, IsNewReader, IsNewWriter, writing, reading, blocks_of};
 

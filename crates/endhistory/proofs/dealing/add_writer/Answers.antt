@@ -1,4 +1,4 @@
-use Rattle.std.proofs.Common.{rules, arith, ◌<◌, ◌≡◌}
+use Rattle.std.proofs.Common.{arith, ◌≡◌}
 use Rattle.endhistory.specs.Blocks.{word_count}
 use Rattle.endhistory.proofs.SeatsKept.{adds_writer}
 use Rattle.endhistory.proofs.dealing.add_writer.Goals as goal

@@ -1,4 +1,3 @@
-use Rattle.std.proofs.Common.{arith, ◌+◌, ◌<◌, ◌≡◌, ◌≤◌}
 use Rattle.endhistory.proofs.PartsKept.{passed_older}
 use Rattle.endhistory.proofs.laws.stores_over_passed_blocks.Goals as goal
 

@@ -1,4 +1,4 @@
-use Rattle.std.proofs.Common.{arith, ◌+◌, ◌*◌, ◌%◌, ◌<◌, ◌≡◌, ◌≤◌, length, get_or, ap, ◌∙◌, List, ℕ}
+use Rattle.std.proofs.Common.{arith, ◌+◌, ◌<◌, ◌≡◌, ◌≤◌, length, get_or, ap, ◌∙◌, List, ℕ}
 use Rattle.endhistory.specs.Blocks.{word_count}
 use Rattle.endhistory.proofs.InARow.{fill_next}
 use Rattle.endhistory.proofs.runs.fill_all.Goals as goal

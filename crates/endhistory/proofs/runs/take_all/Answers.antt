@@ -1,4 +1,4 @@
-use Rattle.std.proofs.Common.{arith, ◌+◌, ◌*◌, ◌%◌, ◌<◌, ◌≡◌, ◌≤◌, length, get_or, set, sym, ap, subst, ◌∙◌, List, ℕ}
+use Rattle.std.proofs.Common.{arith, ◌+◌, ◌<◌, ◌≡◌, ◌≤◌, length, ap, ◌∙◌, ℕ}
 use Rattle.std.proofs.lemmas.List.{ext_get_or, length-set}
 use Rattle.endhistory.specs.Blocks.{block, word_count}
 use Rattle.endhistory.specs.Seats.{blocks_of}

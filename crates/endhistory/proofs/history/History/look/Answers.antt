@@ -1,4 +1,4 @@
-use Rattle.std.proofs.Common.{rules, arith, ◌<◌, ◌≡◌, ap}
+use Rattle.std.proofs.Common.{arith, ◌≡◌, ap}
 use Rattle.endhistory.specs.Tells.{Here}
 use Rattle.endhistory.specs.Blocks.{word_count}
 use Rattle.endhistory.specs.Seats.{reading, number_of}

@@ -1,4 +1,4 @@
-use Rattle.std.proofs.Common.{arith, ◌+◌, ◌*◌, ◌<◌, ◌≡◌, ap, ◌∙◌, ℕ}
+use Rattle.std.proofs.Common.{arith, ◌+◌, ◌≡◌, ap, ◌∙◌, ℕ}
 use Rattle.endhistory.specs.Blocks.{word_count}
 use Rattle.endhistory.proofs.InARow.{publish_next}
 use Rattle.endhistory.proofs.history.History.publish.Goals as goal

@@ -1,4 +1,4 @@
-use Rattle.std.proofs.Common.{◌≡◌, length}
+use Rattle.std.proofs.Common.{◌≡◌}
 use Rattle.endhistory.specs.Seats.{IsAt, reading, blocks_of}
 use Rattle.endhistory.proofs.tests.across_threads.consume.Given as goal
 

@@ -1,4 +1,4 @@
-use Rattle.std.proofs.Common.{arith, ℕ, ◌+◌, ◌*◌, ◌<◌, ◌≡◌, ◌≤◌, length, get_or, sym, subst}
+use Rattle.std.proofs.Common.{arith, ℕ, ◌≡◌, ◌≤◌, length, sym, subst}
 use Rattle.endhistory.specs.Blocks.{block, count_blocks}
 use Rattle.endhistory.proofs.Counted.{counted_block}
 use Rattle.endhistory.proofs.tests.across_threads.count_words.Goals as goal

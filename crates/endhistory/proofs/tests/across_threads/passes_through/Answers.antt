@@ -1,4 +1,4 @@
-use Rattle.std.proofs.Common.{arith, ◌≡◌, ◌≤◌, ℕ, ◌^◌, length, sym, subst}
+use Rattle.std.proofs.Common.{arith, ◌≤◌, ℕ, ◌^◌, length, subst}
 use Rattle.endhistory.specs.Blocks.{AreWide, count_blocks}
 use Rattle.endhistory.proofs.Counted.{counted_length, counted_wide}
 use Rattle.endhistory.proofs.tests.across_threads.passes_through.Goals as goal
