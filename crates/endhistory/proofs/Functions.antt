@@ -1,0 +1,34 @@
+-- A function from numbers that is changed at one number.
+use Rattle.std.proofs.Common.{◌≡◌, ◌≢◌, ℕ, sym, refl, subst}
+use mathlib.Core.Logic.{dite}
+use native.Mathlib.Decide.{ℕ_discrete}
+
+module _ {A : Type 0} where
+  abbrev pub pick : {P : Type 0} → Dec P → A → A → A
+  pick (yes _) a b = a
+  pick (no _) a b = b
+
+  pub put : (ℕ → A) → ℕ → A → ℕ → A
+  put f i c j = pick (ℕ_discrete j i) c (f j)
+
+  pub put_here : (f : ℕ → A) (i : ℕ) (c : A) → put f i c i ≡ c
+  unfolding put
+  put_here f i c = go (ℕ_discrete i i)
+    where
+      go : (d : Dec (i ≡ i)) → pick d c (f i) ≡ c
+      go (yes _) = refl
+      go (no n) = absurd (n refl)
+
+  pub put_else : (f : ℕ → A) (i : ℕ) (c : A) (j : ℕ) → j ≢ i → put f i c j ≡ f j
+  unfolding put
+  put_else f i c j other = go (ℕ_discrete j i)
+    where
+      go : (d : Dec (j ≡ i)) → pick d c (f j) ≡ f j
+      go (yes e) = absurd (other e)
+      go (no _) = refl
+
+  -- what holds of the new value at i, and of the old ones elsewhere, holds of the changed function
+  pub put_each : (P : ℕ → A → Type 0) (f : ℕ → A) (i : ℕ) (c : A) → P i c → ((j : ℕ) → j ≢ i → P j (f j)) → (j : ℕ) → P j (put f i c j)
+  put_each P f i c mine others j = dite (ℕ_discrete j i)
+      (λ e. subst (λ (k : ℕ). P k (put f i c k)) (sym e) (subst (P i) (sym (put_here f i c)) mine))
+      (λ other. subst (P j) (sym (put_else f i c j other)) (others j other))
