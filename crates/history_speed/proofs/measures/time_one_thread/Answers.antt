@@ -1,4 +1,4 @@
-use Rattle.std.proofs.Common.{arith, ◌≡◌, ◌≤◌, ◌^◌, length}
+use Rattle.std.proofs.Common.{arith, ◌≤◌, ◌^◌, length}
 use Rattle.history_speed.specs.Same.{same_blocks}
 use Rattle.history_speed.proofs.SameBlocks.{same_length, same_wide}
 use Rattle.history_speed.proofs.measures.time_one_thread.Goals as goal

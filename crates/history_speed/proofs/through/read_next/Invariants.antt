@@ -1,4 +1,3 @@
-use Rattle.std.proofs.Common.{◌≡◌, length}
 use Rattle.history_speed.specs.Same.{StandsToRead}
 use Rattle.history_speed.proofs.through.read_next.Given as goal
 
