@@ -1,5 +1,5 @@
 -- What holds of a pipe that can be divided.
-use Rattle.std.proofs.Common.{◌≡◌, ℕ, ◌≤◌, ◌==◌, ◌&&◌, not, nat_le, Bool, true, false, ℤ, pos, ◌≤ℤ◌, int_le, refl, rules, arith}
+use Rattle.std.proofs.Common.{◌≡◌, ℕ, ◌≤◌, ◌==◌, ◌&&◌, not, Bool, true, false, ℤ, pos, ◌≤ℤ◌, int_le, refl, arith}
 use Rattle.std.proofs.lemmas.Int.{ints}
 use Rattle.std.proofs.lemmas.Bool.Decides.{nat_tests}
 use Rattle.case_model.specs.declared.cases.Pipe.{Pipe}

@@ -1,5 +1,5 @@
 -- The mesh of a case without refusal is one in which rows can be computed, and its places are numbered.
-use Rattle.std.proofs.Common.{◌≡◌, ◌<◌, ◌≤◌, ◌^◌, ℕ, suc, zero, ◌+◌, ◌==◌, ◌||◌, nat_lt, Bool, true, false, List, [], ◌∷◌, length, map, take, get_or, Option, Some, None, refl, ap, subst, sym, ◌∙◌, add-one, arith, eq-eqb}
+use Rattle.std.proofs.Common.{◌≡◌, ◌<◌, ◌≤◌, ℕ, suc, zero, ◌+◌, ◌==◌, nat_lt, Bool, true, false, List, [], ◌∷◌, length, map, take, get_or, Option, Some, None, refl, ap, subst, sym, ◌∙◌, add-one, arith, eq-eqb}
 use Rattle.std.proofs.lemmas.List.{ext_get_or}
 use Rattle.std.proofs.lemmas.List.FromFn.{get_or-map-range_with_len, length-map-range_with_len, take-map-range_with_len, sum_by-map-range_with_len_more}
 use Rattle.std.proofs.lemmas.List.Sums.{fails_before_first, sum_by_more}
@@ -19,7 +19,7 @@ use Rattle.case_model.specs.Parts.{pipe_at, no_pipe}
 use Rattle.case_model.specs.Ends.{end_if, ends_at}
 use Rattle.case_model.specs.Division.{divides, place_base, reaches_at, node_ends, AreEnds, pipe_mesh, mesh_of}
 use Rattle.case_model.specs.Refusals.{part_rules}
-use Rattle.reaches.proofs.Divided.{IsAccepted, divided}
+use Rattle.reaches.proofs.Divided.{divided}
 use Rattle.reaches.proofs.Whole.{all_divided, or_right}
 
 -- the ends of a node are those of pipes

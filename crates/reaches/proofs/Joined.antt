@@ -1,9 +1,8 @@
 -- The ends at each node, one pipe more.
-use Rattle.std.proofs.Common.{◌≡◌, ℕ, ◌+◌, ◌<◌, ◌≤◌, ◌==◌, Bool, true, false, get_or, set, take, length, List, [], ◌∷◌, ◌++◌, replicate, Option, Some, None, refl, ap, ◌∙◌, sym, subst, arith, append-nil, inl, inr}
+use Rattle.std.proofs.Common.{◌≡◌, ℕ, ◌+◌, ◌<◌, ◌==◌, Bool, true, false, get_or, set, take, length, List, [], ◌∷◌, ◌++◌, replicate, Option, Some, None, refl, ap, ◌∙◌, sym, subst, arith, append-nil, inl, inr}
 use Rattle.std.specs.List.{cons_option}
 use Rattle.std.proofs.lemmas.Bool.{cases_eq, eq-eqb, ne_eqb}
 use Rattle.std.proofs.lemmas.List.{take_more, length-take-le, length-set, length-replicate, replicate-append-replicate, set-set, get_or-replicate, get_or-set_other, get_or-set_same}
-use Rattle.case_model.specs.declared.cases.Case.{Case}
 use Rattle.case_model.specs.declared.cases.Pipe.{Pipe}
 use Rattle.case_model.specs.declared.meshes.End.{End}
 use Rattle.case_model.specs.Ends.{end_if, ends_at}

@@ -1,8 +1,8 @@
 -- The least broken rule of more and more items.
-use Rattle.std.proofs.Common.{◌≡◌, ℕ, zero, suc, ◌+◌, ◌||◌, Bool, true, false, IsTrue, List, [], ◌∷◌, Option, Some, None, refl, ap, subst, sym, ◌∙◌, add-one, arith}
+use Rattle.std.proofs.Common.{◌≡◌, ℕ, zero, suc, ◌+◌, ◌||◌, Bool, true, false, Option, Some, None, refl, ap, subst, sym, ◌∙◌, add-one, arith}
 use Rattle.std.specs.List.{list_any, range_with_len}
 use Rattle.reaches.specs.declared.refusal.Refusal.{Refusal}
-use Rattle.case_model.specs.Sets.{Rules, IsEmpty, IsLeast, either, any_below}
+use Rattle.case_model.specs.Sets.{Rules, IsLeast, either, any_below}
 use Rattle.reaches.specs.Told.{Tells}
 
 pub told_as : (rules : Rules) (o : Option Refusal) (r : Refusal) → o ≡ Some r → Tells rules o → IsLeast rules r.line r.number

@@ -1,17 +1,17 @@
 -- A case without refusal: each pipe is divided, and the mesh is one in which rows can be computed.
-use Rattle.std.proofs.Common.{◌≡◌, ℕ, zero, suc, ◌+◌, ◌<◌, ◌≤◌, ◌⊎◌, inl, inr, ◌==◌, ◌&&◌, ◌||◌, not, nat_lt, Bool, true, false, ℤ, pos, IsTrue, List, [], ◌∷◌, ◌++◌, length, map, take, get_or, refl, ap, subst, sym, ◌∙◌, add-one, arith}
-use Rattle.std.specs.List.{list_any, range_with_len, sum_by}
+use Rattle.std.proofs.Common.{◌≡◌, ℕ, zero, suc, ◌+◌, ◌<◌, inl, inr, ◌==◌, ◌&&◌, ◌||◌, not, Bool, true, false, ℤ, pos, List, [], ◌∷◌, ◌++◌, length, map, refl, ap, subst, sym, ◌∙◌, add-one, arith}
+use Rattle.std.specs.List.{range_with_len}
 use Rattle.std.proofs.lemmas.Bool.{cases_lt, eq-eqb, eqb-true}
 use Rattle.std.proofs.lemmas.List.Sums.{sum_by_more}
 use Rattle.std.proofs.lemmas.List.FromFn.{map-range_with_len_more}
 use Rattle.case_model.specs.declared.cases.Case.{Case}
 use Rattle.case_model.specs.declared.cases.Pipe.{Pipe}
 use Rattle.case_model.specs.declared.meshes.PipeMesh.{PipeMesh}
-use Rattle.case_model.specs.Sets.{Rules, IsEmpty, IsLeast, AreEmpty, IsFirst, either, on_line, any_below}
+use Rattle.case_model.specs.Sets.{Rules, IsEmpty, IsLeast, any_below}
 use Rattle.case_model.specs.Formulas.{reach_count, cut, b_of, r_of}
 use Rattle.case_model.specs.Parts.{pipe_at, no_pipe}
-use Rattle.case_model.specs.Division.{is_count, is_adjusted, has_coefficients, is_divided, divides, place_base, reaches_at, pipe_mesh}
-use Rattle.case_model.specs.Refusals.{breaks_pipe, pipe_rules, node_rules, probe_rules, part_rules, is_too_large, size_rules, passes}
+use Rattle.case_model.specs.Division.{is_count, is_adjusted, has_coefficients, divides, place_base, reaches_at, pipe_mesh}
+use Rattle.case_model.specs.Refusals.{breaks_pipe, pipe_rules, node_rules, probe_rules, part_rules, is_too_large, size_rules}
 use Rattle.reaches.proofs.Least.{any_next}
 use Rattle.reaches.proofs.Divided.{and_left, and_right, divided}
 

@@ -34,6 +34,7 @@ pub fn divide(alloc: Global, case: &Case) -> Result<Mesh, CaseFault>
     requires { IsRead case.now }
     ensures mesh { IfOk result (λ mesh. mesh ≡ mesh_of case.now) }
     ensures accepted { IfOk result (λ mesh. AreEmpty (passes case.now)) }
+    ensures pipes { IfOk result (λ mesh. length mesh.pipes ≡ length case.now.pipes) }
     ensures good { IfOk result (λ mesh. IsMesh mesh) }
     ensures numbered { IfOk result (λ mesh. IsNumbered mesh) }
     ensures refused { (number line : ℕ) → result ≡ Err (CaseFault.Refused number line) → IsFirst (passes case.now) line number }

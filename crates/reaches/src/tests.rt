@@ -82,19 +82,22 @@ fn within(least: i64, most: i64, x: i64) -> bool
     least <= x && x <= most
 }
 
+fn is_bore(p: &Pipe) -> bool
+    ensures { IsTrue result → IsWithin (pos 1) (pos 1_000_000_000) p.now.length × IsWithin (pos 20) (pos 10_000) p.now.diameter }
+{
+    within(1, 1_000_000_000, p.length) && within(20, 10_000, p.diameter)
+}
+
+fn is_fast(p: &Pipe) -> bool
+    ensures { IsTrue result → IsWithin (pos 10_000) (pos 2_000_000) p.now.speed × IsWithin (pos 0) (pos 500_000) p.now.friction }
+{
+    within(10_000, 2_000_000, p.speed) && within(0, 500_000, p.friction)
+}
+
 fn is_pipe(p: &Pipe) -> bool
     ensures { IsTrue result → IsPipe p.now }
 {
-    if !within(1, 1_000_000_000, p.length) {
-        return false;
-    }
-    if !within(20, 10_000, p.diameter) {
-        return false;
-    }
-    if !within(10_000, 2_000_000, p.speed) {
-        return false;
-    }
-    within(0, 500_000, p.friction) && is_flow(p.flow)
+    is_bore(p) && is_fast(p) && is_flow(p.flow)
 }
 
 fn are_pipes(pipes: &[Pipe]) -> bool
@@ -316,47 +319,64 @@ fn refuses_at_the_edges(rt: HostRuntime) -> Result<(), Fail> {
     Ok(())
 }
 
+fn alike(alloc: Global, length: i64, count: usize) -> Result<Vec<Pipe>, AllocError> {
+    let mut pipes = Vec::new(alloc);
+    for _ in 0..count {
+        pipes.push(pipe(20, 0, 1, length))?;
+    }
+    Ok(pipes)
+}
+
 // 400,000 places and one more, 4,000,000 samples and one more, 8 ends and 9, and a pipe from a node
 // to itself, counted by hand.
 #[test]
 fn refuses_by_counts(rt: HostRuntime) -> Result<(), Fail> {
     let alloc = rt.alloc();
     let pools = [POOL, POOL];
-    let most = pipe(20, 0, 1, 655_360_000);
-    let whole = [
-        most,
-        most,
-        most,
-        most,
-        most,
-        most,
-        pipe(21, 0, 1, 67_750_000),
+    let rows = [
+        (
+            10_000,
+            6,
+            655_360_000,
+            pipe(21, 0, 1, 67_750_000),
+            1,
+            (0, 0),
+        ),
+        (
+            10_000,
+            6,
+            655_360_000,
+            pipe(21, 0, 1, 67_760_000),
+            1,
+            (10, 0),
+        ),
+        (
+            100_000,
+            1,
+            200_000,
+            pipe(21, 0, 1, 200_000),
+            3_999_999,
+            (0, 0),
+        ),
+        (
+            100_000,
+            1,
+            200_000,
+            pipe(21, 0, 1, 200_000),
+            4_000_000,
+            (10, 0),
+        ),
+        (100_000, 7, 200_000, pipe(21, 0, 1, 200_000), 1, (0, 0)),
+        (100_000, 8, 200_000, pipe(21, 0, 1, 200_000), 1, (11, 10)),
+        (100_000, 1, 200_000, pipe(21, 0, 0, 200_000), 1, (11, 21)),
     ];
-    let case = network(alloc, 10_000, &pools, &whole, None)?;
-    assert_eq!(rt; refusal(alloc, &case), (0, 0));
-    let over = [
-        most,
-        most,
-        most,
-        most,
-        most,
-        most,
-        pipe(21, 0, 1, 67_760_000),
-    ];
-    let case = network(alloc, 10_000, &pools, &over, None)?;
-    assert_eq!(rt; refusal(alloc, &case), (10, 0));
-    let short = pipe(20, 0, 1, 200_000);
-    let mut case = network(alloc, 100_000, &pools, &[short], Some(0))?;
-    case.steps = 3_999_999;
-    assert_eq!(rt; refusal(alloc, &case), (0, 0));
-    case.steps = 4_000_000;
-    assert_eq!(rt; refusal(alloc, &case), (10, 0));
-    let case = network(alloc, 100_000, &pools, &[short; 8], None)?;
-    assert_eq!(rt; refusal(alloc, &case), (0, 0));
-    let case = network(alloc, 100_000, &pools, &[short; 9], None)?;
-    assert_eq!(rt; refusal(alloc, &case), (11, 10));
-    let case = network(alloc, 100_000, &[POOL], &[pipe(20, 0, 0, 200_000)], None)?;
-    assert_eq!(rt; refusal(alloc, &case), (11, 20));
+    for (dt, count, length, other, steps, want) in rows {
+        let mut pipes = alike(alloc, length, count)?;
+        pipes.push(other)?;
+        let mut case = network(alloc, dt, &pools, &pipes, Some(0))?;
+        case.steps = steps;
+        assert_eq!(rt; refusal(alloc, &case), want);
+    }
     Ok(())
 }
 

@@ -1,10 +1,11 @@
-use Rattle.std.proofs.Common.{◌≡◌, ℕ, true, inl, inr, sym, subst, ◌∙◌}
+use Rattle.std.proofs.Common.{◌≡◌, ℕ, true, length, inl, inr, ap, sym, subst, ◌∙◌}
+use Rattle.case_model.specs.declared.meshes.Mesh.{Mesh}
 use Rattle.case_model.specs.Mesh.{IsMesh, IsNumbered}
 use Rattle.case_model.specs.Sets.{IsEmpty, IsLeast}
 use Rattle.case_model.specs.Division.{AreEnds}
 use Rattle.case_model.specs.Refusals.{is_too_large, part_rules, size_rules}
 use Rattle.reaches.proofs.Whole.{all_divided, too_large, not_too_large}
-use Rattle.reaches.proofs.Good.{mesh_good, mesh_numbered, mesh_whole}
+use Rattle.reaches.proofs.Good.{pipes_number, mesh_good, mesh_numbered, mesh_whole}
 use Rattle.reaches.proofs.division.divide.Goals as goal
 
 pub pipe_meshes-requires-clause-divided : goal.pipe_meshes-requires-clause-divided
@@ -28,6 +29,9 @@ returns-clause-mesh c =
 pub returns-clause-accepted : goal.returns-clause-accepted
 returns-clause-accepted c =
     (λ l n t. c.in_default-parts_refusal.ensures {u = tt} l n t, (not_too_large c.args.case.now (sym c.is_too_large.ensures ∙ c.if-is_too_large.false), tt))
+
+pub returns-clause-pipes : goal.returns-clause-pipes
+returns-clause-pipes c = ap (λ (m : Mesh). length m.pipes) (returns-clause-mesh c) ∙ pipes_number c.args.case.now
 
 pub returns-clause-good : goal.returns-clause-good
 returns-clause-good c =

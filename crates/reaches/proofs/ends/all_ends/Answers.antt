@@ -1,4 +1,4 @@
-use Rattle.std.proofs.Common.{◌≡◌, ◌<◌, get_or, length, sym, subst, arith}
+use Rattle.std.proofs.Common.{◌≡◌, ◌<◌, get_or, length, sym, subst}
 use Rattle.std.proofs.lemmas.List.Elements.{All-get_or}
 use Rattle.case_model.specs.Limits.{IsJoined}
 use Rattle.case_model.specs.Parts.{no_pipe}

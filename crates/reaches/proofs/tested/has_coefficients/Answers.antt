@@ -1,4 +1,4 @@
-use Rattle.std.proofs.Common.{◌≡◌, ◌∙◌, FitsSigned, w64, rules, to_z-of_z}
+use Rattle.std.proofs.Common.{◌∙◌, FitsSigned, w64, rules, to_z-of_z}
 use Rattle.std.specs.Int.{w128}
 use Rattle.case_model.specs.Formulas.{b_of, r_of}
 use Rattle.case_model.specs.Division.{has_coefficients}
