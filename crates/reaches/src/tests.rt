@@ -398,6 +398,15 @@ fn judges_nodes(rt: HostRuntime) {
         start: 0,
         start2: 0,
     };
+    let valve = NodeKind::Inline {
+        q0: 0,
+        h0: 10_000,
+        opening: Value::Fixed(0),
+        start: 0,
+        start2: 0,
+    };
+    assert!(rt; suits(&valve, &[last, first]));
+    assert!(rt; !suits(&valve, &[last, last]));
     assert!(rt; suits(&pump, &[last, first]));
     assert!(rt; suits(&pump, &[first, last]));
     assert!(rt; !suits(&pump, &[last, last]));
