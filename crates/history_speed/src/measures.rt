@@ -20,7 +20,7 @@ fn rate(count: u64, time: Duration) -> u128
 
 /// Writes how many blocks of a width a second went through a history on one
 /// thread, through one on two threads, and by plain copies.
-pub fn measure<R: Threads + Wait + Clock + Print + AllocGlobal + Sync>(
+pub(crate) fn measure<R: Threads + Wait + Clock + Print + AllocGlobal + Sync>(
     rt: &R,
     width: u64,
     count: u64,

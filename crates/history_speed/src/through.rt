@@ -1,5 +1,5 @@
 //! Blocks through one history, on one thread and on two.
-ghost use Rattle.std.specs.Prelude.{◌≡◌, ◌+◌, ◌<◌, length, replicate, MatchBool};
+ghost use Rattle.std.specs.Prelude.{◌≡◌, ◌+◌, ◌<◌, length, replicate, MatchBool, true};
 ghost use Rattle.history_speed.specs.Same.{StandsToWrite, StandsToRead};
 
 use endhistory::{History, Look, Reader, Vacancy, Writer};
@@ -94,6 +94,7 @@ fn read_next(
 fn write_all(rt: &impl Wait, history: &History, writer: &mut Writer, words: &[u64], count: u64)
     requires stands { StandsToWrite history.now.table.shared.table_id history.now.sizes count 0 writer.old.seat }
     requires words { words.now ≡ replicate history.now.sizes.width 7 }
+    ensures { StandsToWrite history.now.table.shared.table_id history.now.sizes count count writer.new.seat }
 {
     for number in 0..count {
         write_next(rt, history, writer, words, number, count);
@@ -103,6 +104,7 @@ fn write_all(rt: &impl Wait, history: &History, writer: &mut Writer, words: &[u6
 fn read_all(rt: &impl Wait, history: &History, reader: &mut Reader, into: &mut [u64], count: u64)
     requires stands { StandsToRead history.now.table.shared.table_id history.now.sizes count 0 reader.old.seat }
     requires wide { length into.old ≡ history.now.sizes.width }
+    ensures { StandsToRead history.now.table.shared.table_id history.now.sizes count count reader.new.seat }
 {
     for number in 0..count {
         read_next(rt, history, reader, into, number, count);
@@ -110,7 +112,7 @@ fn read_all(rt: &impl Wait, history: &History, reader: &mut Reader, into: &mut [
 }
 
 /// All blocks on one thread, one after another; whether each went through at once.
-pub fn on_one_thread(
+pub(crate) fn on_one_thread(
     history: &History,
     writer: &mut Writer,
     reader: &mut Reader,
@@ -122,6 +124,7 @@ pub fn on_one_thread(
     requires reader { StandsToRead history.now.table.shared.table_id history.now.sizes count 0 reader.old.seat }
     requires words { words.now ≡ replicate history.now.sizes.width 7 }
     requires wide { length into.old ≡ history.now.sizes.width }
+    ensures { result ≡ true → (StandsToWrite history.now.table.shared.table_id history.now.sizes count count writer.new.seat) × (StandsToRead history.now.table.shared.table_id history.now.sizes count count reader.new.seat) }
 {
     for number in 0..count {
         if !write_one(history, writer, words, number, count) {
@@ -135,7 +138,7 @@ pub fn on_one_thread(
 }
 
 /// All blocks from a writer in one thread to a reader in another.
-pub fn on_two_threads<R: Threads + Wait + Sync>(
+pub(crate) fn on_two_threads<R: Threads + Wait + Sync>(
     rt: &R,
     history: &History,
     writer: &mut Writer,
@@ -163,7 +166,7 @@ pub fn on_two_threads<R: Threads + Wait + Sync>(
 }
 
 /// As many plain copies of the words; the sum of the words that were found last keeps each copy.
-pub fn by_copies(words: &mut [u64], into: &mut [u64], count: u64) -> u64
+pub(crate) fn by_copies(words: &mut [u64], into: &mut [u64], count: u64) -> u64
     requires { (length into.old ≡ length words.old) × (0 < length words.old) }
 {
     let mut kept = 0u64;
