@@ -100,6 +100,15 @@ fn words_of_points(rt: HostRuntime) {
         1_000_000_000_000_000,
     ];
     assert_eq!(rt; to_words(&good), words);
+    let cold = Point::Good {
+        h: -10_100_000,
+        qu: -8,
+        qd: 8,
+        v: 2,
+    };
+    let cold_words = [9_999_989_900_000, 9_999_999_999_992, 10_000_000_000_008, 2];
+    assert_eq!(rt; to_words(&cold), cold_words);
+    assert_eq!(rt; from_words(&cold_words), Some(cold));
     assert_eq!(rt; to_words(&Point::Bad), [0; 4]);
     assert_eq!(rt; from_words(&words), Some(good));
     assert_eq!(rt; from_words(&[0; 4]), Some(Point::Bad));
