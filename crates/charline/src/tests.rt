@@ -2,15 +2,6 @@ use crate::losses::friction_head;
 use crate::{arrive_minus, arrive_plus, inner_point, liquid_point};
 use case_model::{CavityRule, Point};
 
-fn still(h: i64) -> Point {
-    Point::Good {
-        h,
-        qu: 0,
-        qd: 0,
-        v: 0,
-    }
-}
-
 // A flow of 0.5 m3/s at 129.834328 s/m2 stands for 64.917164 m; the friction of 100 m of a pipe of
 // 1 m with the factor 0.02 takes f dx / (2 g D A^2) Q^2 = 0.041328 m from it. At r = 1 s2/m5 a flow
 // of 2 m3/s loses 4 m.
@@ -48,7 +39,12 @@ fn characteristics_with_friction(rt: HostRuntime) {
 // 0.5 the mean growth is 25 nl/s, 2.5 nl in a step.
 #[test]
 fn interior_cavity(rt: HostRuntime) {
-    let low = still(-10_100_001);
+    let low = Point::Good {
+        h: -10_100_001,
+        qu: 0,
+        qd: 0,
+        v: 0,
+    };
     let rows = [
         (100_000, 10, 0, (-8, 8, 2)),
         (10_000, 10, 0, (0, 0, 0)),
@@ -80,6 +76,5 @@ fn interior_cavity(rt: HostRuntime) {
             }
         );
     }
-    let liquid = liquid_point(129_834_328, 0, &low, &still(0), &low);
-    assert_eq!(rt; liquid, low);
+    assert_eq!(rt; liquid_point(129_834_328, 0, &low, &low, &low), low);
 }
