@@ -1,9 +1,9 @@
 pub mod Accepted
+pub mod Bounded
 pub mod Counted
 pub mod Cutting
-pub mod Divided
-pub mod Fits
-pub mod LeastPair
+pub mod Judged
 pub mod LinesRead
 pub mod Listed
-pub mod Small
+pub mod Readable
+pub mod Weights

@@ -7,7 +7,7 @@ use Rattle.std.proofs.lemmas.List.Splits.{length-slice_split}
 use Rattle.short_case.specs.declared.entry.Entry.{Entry}
 use Rattle.short_case.specs.declared.entry.Entry.TheVariants.{Other}
 use Rattle.short_case.specs.Entries.{parts, entries, entries_of_parts, line_entry, open_entry}
-use Rattle.short_case.specs.Sets.{IsEmpty, IsLeast}
+use Rattle.case_model.specs.Sets.{IsEmpty, IsLeast}
 use Rattle.short_case.specs.Short.{breaks, line_rules}
 
 some_part : (mark : ℕ) (text : List ℕ) → 0 < length (parts mark text)

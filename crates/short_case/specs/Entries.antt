@@ -6,6 +6,7 @@ use Rattle.std.specs.Str.{bytes_eq}
 use Rattle.fixed_num.specs.Decimal.{number_of}
 use Rattle.fixed_num.specs.declared.decimal.NumberFault.{NumberFault}
 use Rattle.short_case.specs.declared.entry.Entry.{Entry}
+use Rattle.short_case.specs.declared.entry.PipeNumbers.{PipeNumbers}
 use Rattle.short_case.specs.declared.entry.Entry.TheVariants.{Heading, OpenHeading, Step, Steps, Reservoir, Junction, Pipe, Other}
 
 -- the parts of a text between one mark and the next
@@ -54,31 +55,70 @@ abbrev pub steps_entry : Option ℤ → Entry
 steps_entry (Some count) = Steps (unsigned_abs count)
 steps_entry None = Other
 
--- `reservoir NAME 0 HEAD`
+-- a level of a node, in 1e-6 m
+abbrev pub elevation_of : List ℕ → Option ℤ
+elevation_of text = number_within 6 (neg_ℤ (pos 10_000_000_000)) (pos 10_000_000_000) text
+
+-- a head, in 1e-6 m
+abbrev pub head_of : List ℕ → Option ℤ
+head_of text = number_within 6 (neg_ℤ (pos 100_000_000_000)) (pos 100_000_000_000) text
+
+-- a length in 1e-3 m, a diameter in 1e-3 m, a wave speed in 1e-3 m/s, and a friction factor in 1e-6
+abbrev pub length_of : List ℕ → Option ℤ
+length_of text = number_within 3 (pos 1) (pos 1_000_000_000) text
+
+abbrev pub diameter_of : List ℕ → Option ℤ
+diameter_of text = number_within 3 (pos 20) (pos 10_000) text
+
+abbrev pub speed_of : List ℕ → Option ℤ
+speed_of text = number_within 3 (pos 10_000) (pos 2_000_000) text
+
+abbrev pub friction_of : List ℕ → Option ℤ
+friction_of text = number_within 6 (pos 0) (pos 500_000) text
+
+-- a flow, in 1e-9 m3/s
+abbrev pub flow_of : List ℕ → Option ℤ
+flow_of text = number_within 9 (neg_ℤ (pos 1_000_000_000_000)) (pos 1_000_000_000_000) text
+
+-- `reservoir NAME ELEVATION HEAD`
 abbrev pub is_reservoir_line : List (List ℕ) → Bool
-is_reservoir_line fields = (length fields == 4) && is_word fields 0 (codes "reservoir") && is_name (field fields 1) && is_word fields 2 (codes "0")
+is_reservoir_line fields = (length fields == 4) && is_word fields 0 (codes "reservoir") && is_name (field fields 1)
 
-abbrev pub reservoir_entry : List ℕ → Option ℤ → Entry
-reservoir_entry name (Some head) = Reservoir name head
-reservoir_entry name None = Other
+abbrev pub reservoir_entry : List ℕ → Option ℤ → Option ℤ → Entry
+reservoir_entry name (Some elevation) (Some head) = Reservoir name elevation head
+reservoir_entry name (Some elevation) None = Other
+reservoir_entry name None head = Other
 
--- `junction NAME 0 0 START`
+-- `junction NAME ELEVATION 0 START`
 abbrev pub is_junction_line : List (List ℕ) → Bool
-is_junction_line fields = (length fields == 5) && is_word fields 0 (codes "junction") && is_name (field fields 1) && is_word fields 2 (codes "0") && is_word fields 3 (codes "0")
+is_junction_line fields = (length fields == 5) && is_word fields 0 (codes "junction") && is_name (field fields 1) && is_word fields 3 (codes "0")
 
-abbrev pub junction_entry : List ℕ → Option ℤ → Entry
-junction_entry name (Some start) = Junction name start
-junction_entry name None = Other
+abbrev pub junction_entry : List ℕ → Option ℤ → Option ℤ → Entry
+junction_entry name (Some elevation) (Some start) = Junction name elevation start
+junction_entry name (Some elevation) None = Other
+junction_entry name None start = Other
 
--- `pipe NAME FIRST LAST LENGTH 1 1000 0 FLOW`
+-- `pipe NAME FIRST LAST LENGTH DIAMETER SPEED FRICTION FLOW`
 abbrev pub is_pipe_line : List (List ℕ) → Bool
 is_pipe_line fields = (length fields == 9) && is_word fields 0 (codes "pipe") && is_name (field fields 1) && is_name (field fields 2) && is_name (field fields 3)
-    && is_word fields 5 (codes "1") && is_word fields 6 (codes "1000") && is_word fields 7 (codes "0")
 
-abbrev pub pipe_entry : List ℕ → List ℕ → List ℕ → Option ℤ → Option ℤ → Entry
-pipe_entry name first last (Some length) (Some flow) = Pipe name first last (unsigned_abs length) flow
-pipe_entry name first last (Some length) None = Other
-pipe_entry name first last None flow = Other
+abbrev pub pipe_numbers : Option ℤ → Option ℤ → Option ℤ → Option ℤ → Option ℤ → Option PipeNumbers
+pipe_numbers (Some long) (Some diameter) (Some speed) (Some friction) (Some flow) =
+    Some (record { length = long; diameter = diameter; speed = speed; friction = friction; flow = flow })
+pipe_numbers None diameter speed friction flow = None
+pipe_numbers (Some long) None speed friction flow = None
+pipe_numbers (Some long) (Some diameter) None friction flow = None
+pipe_numbers (Some long) (Some diameter) (Some speed) None flow = None
+pipe_numbers (Some long) (Some diameter) (Some speed) (Some friction) None = None
+
+-- the numbers in the fields of a pipe line
+abbrev pub numbers_of : List (List ℕ) → Option PipeNumbers
+numbers_of fields =
+    pipe_numbers (length_of (field fields 4)) (diameter_of (field fields 5)) (speed_of (field fields 6)) (friction_of (field fields 7)) (flow_of (field fields 8))
+
+abbrev pub pipe_entry : List ℕ → List ℕ → List ℕ → Option PipeNumbers → Entry
+pipe_entry name first last (Some numbers) = Pipe name first last numbers
+pipe_entry name first last None = Other
 
 -- what a line with a line end says, by its fields
 unfoldable pub line_entry : List (List ℕ) → Entry
@@ -86,10 +126,9 @@ line_entry fields =
     if is_heading_line fields then Heading
     else if is_step_line fields then step_entry (number_within 6 (pos 1) (pos 1_000_000) (field fields 1))
     else if is_steps_line fields then steps_entry (number_within 0 (pos 1) (pos 100_000_000) (field fields 1))
-    else if is_reservoir_line fields then reservoir_entry (field fields 1) (number_within 6 (neg_ℤ (pos 100_000_000_000)) (pos 100_000_000_000) (field fields 3))
-    else if is_junction_line fields then junction_entry (field fields 1) (number_within 6 (neg_ℤ (pos 100_000_000_000)) (pos 100_000_000_000) (field fields 4))
-    else if is_pipe_line fields then pipe_entry (field fields 1) (field fields 2) (field fields 3)
-    (number_within 3 (pos 1) (pos 1_000_000_000) (field fields 4)) (number_within 9 (neg_ℤ (pos 1_000_000_000_000)) (pos 1_000_000_000_000) (field fields 8))
+    else if is_reservoir_line fields then reservoir_entry (field fields 1) (elevation_of (field fields 2)) (head_of (field fields 3))
+    else if is_junction_line fields then junction_entry (field fields 1) (elevation_of (field fields 2)) (head_of (field fields 4))
+    else if is_pipe_line fields then pipe_entry (field fields 1) (field fields 2) (field fields 3) (numbers_of fields)
     else Other
 
 -- what the last line says where it has no line end

@@ -1,9 +1,9 @@
+pub mod Accepted
 pub mod Entries
 pub mod Named
 pub mod Reading
 pub mod Right
-pub mod Sets
 pub mod Short
-pub mod ShortMesh
 pub mod Sizes
 pub mod Sound
+pub mod Verdict

@@ -1,6 +1,6 @@
 -- What the reading of lines answers where it doesn't give them.
 use Rattle.std.specs.Prelude.{Option, Some, None}
-use Rattle.short_case.specs.Sets.{Refusal}
+use Rattle.case_model.specs.Search.{Refusal}
 use Rattle.short_case.specs.declared.lines.LineFault.{LineFault}
 use Rattle.short_case.specs.declared.lines.LineFault.TheVariants.{Refused, Memory}
 

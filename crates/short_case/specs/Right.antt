@@ -1,17 +1,17 @@
--- Lines of a text that is accepted.
+-- Lines of a text whose lines break no rule.
 use Rattle.std.specs.Prelude.{◌≡◌, true, List}
 use Rattle.std.specs.List.{list_any}
 use Rattle.short_case.specs.declared.entry.Entry.{Entry}
 use Rattle.short_case.specs.declared.entry.Entry.TheVariants.{Heading, OpenHeading, Step, Steps, Reservoir, Junction, Pipe, Other}
-use Rattle.short_case.specs.Short.{is_divided, dt_of, is_node_named}
+use Rattle.short_case.specs.Short.{is_node_named}
 
--- what holds of a line of a text that is accepted: a pipe is divided by the time step, and its nodes are known
+-- what holds of a line of such a text: the nodes of a pipe are known
 abbrev pub IsRight : List Entry → Entry → Type 0
 IsRight all Heading = Unit {0}
 IsRight all OpenHeading = Unit {0}
 IsRight all (Step dt) = Unit {0}
 IsRight all (Steps count) = Unit {0}
-IsRight all (Reservoir name head) = Unit {0}
-IsRight all (Junction name start) = Unit {0}
-IsRight all (Pipe name first last long flow) = (is_divided (dt_of all) long ≡ true) × (list_any (is_node_named first) all ≡ true) × (list_any (is_node_named last) all ≡ true)
+IsRight all (Reservoir name elevation head) = Unit {0}
+IsRight all (Junction name elevation start) = Unit {0}
+IsRight all (Pipe name first last numbers) = (list_any (is_node_named first) all ≡ true) × (list_any (is_node_named last) all ≡ true)
 IsRight all Other = Unit {0}

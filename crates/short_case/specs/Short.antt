@@ -1,5 +1,5 @@
 -- The short case: what its text means, or its first refusal. The rules are sets over all lines at once.
-use Rattle.std.specs.Prelude.{ℕ, ◌+◌, ◌-◌, ◌/◌, ◌%◌, ◌==◌, ◌&&◌, ◌||◌, not, nat_lt, nat_le, Bool, true, false, ℤ, pos, neg_ℤ, Option, Some, None, List, [], ◌∷◌, length, take, slice_index_or}
+use Rattle.std.specs.Prelude.{ℕ, ◌+◌, ◌-◌, ◌==◌, ◌&&◌, ◌||◌, not, nat_lt, nat_le, Bool, true, false, ℤ, pos, neg_ℤ, Option, Some, None, List, [], ◌∷◌, length, take, slice_index_or}
 use Rattle.std.specs.List.{list_any, position_or_len, cons_option}
 use Rattle.std.specs.Str.{bytes_eq}
 use Rattle.case_model.specs.declared.cases.Case.{Case}
@@ -9,8 +9,9 @@ use Rattle.case_model.specs.declared.cases.NodeKind.TheVariants.{Reservoir as Re
 use Rattle.case_model.specs.declared.cases.Value.TheVariants.{Fixed}
 use Rattle.case_model.specs.declared.cases.Pipe.{Pipe}
 use Rattle.short_case.specs.declared.entry.Entry.{Entry}
+use Rattle.short_case.specs.declared.entry.PipeNumbers.{PipeNumbers}
 use Rattle.short_case.specs.declared.entry.Entry.TheVariants.{Heading, OpenHeading, Step, Steps, Reservoir, Junction, Pipe as PipeLine, Other}
-use Rattle.short_case.specs.Sets.{Rules}
+use Rattle.case_model.specs.Sets.{Rules, on_line}
 
 -- whether a line is one of these
 abbrev pub is_heading : Entry → Bool
@@ -18,9 +19,9 @@ is_heading Heading = true
 is_heading OpenHeading = true
 is_heading (Step dt) = false
 is_heading (Steps count) = false
-is_heading (Reservoir name head) = false
-is_heading (Junction name start) = false
-is_heading (PipeLine name first last long flow) = false
+is_heading (Reservoir name elevation head) = false
+is_heading (Junction name elevation start) = false
+is_heading (PipeLine name first last numbers) = false
 is_heading Other = false
 
 abbrev pub is_pipe : Entry → Bool
@@ -28,9 +29,9 @@ is_pipe Heading = false
 is_pipe OpenHeading = false
 is_pipe (Step dt) = false
 is_pipe (Steps count) = false
-is_pipe (Reservoir name head) = false
-is_pipe (Junction name start) = false
-is_pipe (PipeLine name first last long flow) = true
+is_pipe (Reservoir name elevation head) = false
+is_pipe (Junction name elevation start) = false
+is_pipe (PipeLine name first last numbers) = true
 is_pipe Other = false
 
 -- whether a line defines this name for a node
@@ -39,9 +40,9 @@ is_node_named x Heading = false
 is_node_named x OpenHeading = false
 is_node_named x (Step dt) = false
 is_node_named x (Steps count) = false
-is_node_named x (Reservoir name head) = bytes_eq name x
-is_node_named x (Junction name start) = bytes_eq name x
-is_node_named x (PipeLine name first last long flow) = false
+is_node_named x (Reservoir name elevation head) = bytes_eq name x
+is_node_named x (Junction name elevation start) = bytes_eq name x
+is_node_named x (PipeLine name first last numbers) = false
 is_node_named x Other = false
 
 -- whether a line defines this name for anything
@@ -50,9 +51,9 @@ is_named x Heading = false
 is_named x OpenHeading = false
 is_named x (Step dt) = false
 is_named x (Steps count) = false
-is_named x (Reservoir name head) = bytes_eq name x
-is_named x (Junction name start) = bytes_eq name x
-is_named x (PipeLine name first last long flow) = bytes_eq name x
+is_named x (Reservoir name elevation head) = bytes_eq name x
+is_named x (Junction name elevation start) = bytes_eq name x
+is_named x (PipeLine name first last numbers) = bytes_eq name x
 is_named x Other = false
 
 abbrev pub dt_said : Entry → ℕ
@@ -60,9 +61,9 @@ dt_said Heading = 0
 dt_said OpenHeading = 0
 dt_said (Step dt) = dt
 dt_said (Steps count) = 0
-dt_said (Reservoir name head) = 0
-dt_said (Junction name start) = 0
-dt_said (PipeLine name first last long flow) = 0
+dt_said (Reservoir name elevation head) = 0
+dt_said (Junction name elevation start) = 0
+dt_said (PipeLine name first last numbers) = 0
 dt_said Other = 0
 
 abbrev pub steps_said : Entry → ℕ
@@ -70,9 +71,9 @@ steps_said Heading = 0
 steps_said OpenHeading = 0
 steps_said (Step dt) = 0
 steps_said (Steps count) = count
-steps_said (Reservoir name head) = 0
-steps_said (Junction name start) = 0
-steps_said (PipeLine name first last long flow) = 0
+steps_said (Reservoir name elevation head) = 0
+steps_said (Junction name elevation start) = 0
+steps_said (PipeLine name first last numbers) = 0
 steps_said Other = 0
 
 -- a line by its place, counted from 0
@@ -83,17 +84,14 @@ entry_at es k = slice_index_or es k Other
 abbrev pub dt_of : List Entry → ℕ
 dt_of es = dt_said (entry_at es 1)
 
--- whether a length in 1e-3 m is a whole number of reaches, from 2 to 65,536, at 1,000 m/s
-abbrev pub is_divided : ℕ → ℕ → Bool
-is_divided dt long = nat_lt 0 dt && (long % dt == 0) && nat_le 2 (long / dt) && nat_le (long / dt) 65536
-
 -- whether the name is new after these lines, and no pipe stands among them
 abbrev pub is_node_in_place : List Entry → List ℕ → Bool
 is_node_in_place before name = nat_le 3 (length before) && not (list_any is_pipe before) && not (list_any (is_named name) before)
 
-abbrev pub is_pipe_in_place : List Entry → List ℕ → List ℕ → List ℕ → ℕ → Bool
-is_pipe_in_place before name first last long =
-    nat_le 4 (length before) && not (list_any (is_named name) before) && not (bytes_eq first last) && is_divided (dt_of before) long
+-- the same of a pipe, between two nodes
+abbrev pub is_pipe_in_place : List Entry → List ℕ → List ℕ → List ℕ → Bool
+is_pipe_in_place before name first last =
+    nat_le 4 (length before) && not (list_any (is_named name) before) && not (bytes_eq first last)
 
 -- whether a line is of the form that its place after these lines asks for
 abbrev pub is_in_place : List Entry → Entry → Bool
@@ -101,9 +99,9 @@ is_in_place before Heading = length before == 0
 is_in_place before OpenHeading = false
 is_in_place before (Step dt) = length before == 1
 is_in_place before (Steps count) = length before == 2
-is_in_place before (Reservoir name head) = is_node_in_place before name
-is_in_place before (Junction name start) = is_node_in_place before name
-is_in_place before (PipeLine name first last long flow) = is_pipe_in_place before name first last long
+is_in_place before (Reservoir name elevation head) = is_node_in_place before name
+is_in_place before (Junction name elevation start) = is_node_in_place before name
+is_in_place before (PipeLine name first last numbers) = is_pipe_in_place before name first last
 is_in_place before Other = false
 
 -- whether a line in its place names a node that no line before it defines
@@ -112,10 +110,10 @@ names_unknown before Heading = false
 names_unknown before OpenHeading = false
 names_unknown before (Step dt) = false
 names_unknown before (Steps count) = false
-names_unknown before (Reservoir name head) = false
-names_unknown before (Junction name start) = false
-names_unknown before (PipeLine name first last long flow) =
-    is_pipe_in_place before name first last long && (not (list_any (is_node_named first) before) || not (list_any (is_node_named last) before))
+names_unknown before (Reservoir name elevation head) = false
+names_unknown before (Junction name elevation start) = false
+names_unknown before (PipeLine name first last numbers) =
+    is_pipe_in_place before name first last && (not (list_any (is_node_named first) before) || not (list_any (is_node_named last) before))
 names_unknown before Other = false
 
 -- the rules that a line breaks after the lines before it: 1 first line, 7 name unknown, 90 not read yet
@@ -131,18 +129,22 @@ line_rules es line number =
     (nat_lt 0 line && nat_le line (length es) && breaks (take (line - 1) es) (entry_at es (line - 1)) number)
     || ((length es == 0) && (line == 1) && (number == 1))
 
+-- the rule of the whole text: 90 on line 0 where there is no pipe
+unfoldable pub pipe_rules : List Entry → Rules
+pipe_rules es = on_line 0 (λ number. (number == 90) && not (list_any is_pipe es))
+
 -- the node that a line says, if any
-abbrev pub node : ℕ → List ℕ → NodeKind → Node
-node line name kind = record { name = name; line = line; elevation = pos 0; kind = kind }
+abbrev pub node : ℕ → List ℕ → ℤ → NodeKind → Node
+node line name elevation kind = record { name = name; line = line; elevation = elevation; kind = kind }
 
 abbrev pub node_said : ℕ → Entry → Option Node
 node_said line Heading = None
 node_said line OpenHeading = None
 node_said line (Step dt) = None
 node_said line (Steps count) = None
-node_said line (Reservoir name head) = Some (node line name (ReservoirKind (Fixed head)))
-node_said line (Junction name start) = Some (node line name (JunctionKind (Fixed (pos 0)) start))
-node_said line (PipeLine name first last long flow) = None
+node_said line (Reservoir name elevation head) = Some (node line name elevation (ReservoirKind (Fixed head)))
+node_said line (Junction name elevation start) = Some (node line name elevation (JunctionKind (Fixed (pos 0)) start))
+node_said line (PipeLine name first last numbers) = None
 node_said line Other = None
 
 -- the nodes of these lines in file order, of which the first has the number `line`
@@ -154,18 +156,18 @@ nodes_from line (e ∷ es) = cons_option (node_said line e) (nodes_from (line + 
 abbrev pub node_index : List Node → List ℕ → ℕ
 node_index nodes name = position_or_len (λ n. bytes_eq n.name name) nodes
 
--- the pipe that a line says, if any: 1 m wide, 1,000 m/s, no friction
-abbrev pub pipe : List Node → ℕ → List ℕ → List ℕ → List ℕ → ℕ → ℤ → Pipe
-pipe nodes line name first last long flow = record {
+-- the pipe that a line says, if any
+abbrev pub pipe : List Node → ℕ → List ℕ → List ℕ → List ℕ → PipeNumbers → Pipe
+pipe nodes line name first last numbers = record {
   name = name;
   line = line;
   first = node_index nodes first;
   last = node_index nodes last;
-  length = pos long;
-  diameter = pos 1_000;
-  speed = pos 1_000_000;
-  friction = pos 0;
-  flow = flow;
+  length = numbers.length;
+  diameter = numbers.diameter;
+  speed = numbers.speed;
+  friction = numbers.friction;
+  flow = numbers.flow;
 }
 
 abbrev pub pipe_said : List Node → ℕ → Entry → Option Pipe
@@ -173,9 +175,9 @@ pipe_said nodes line Heading = None
 pipe_said nodes line OpenHeading = None
 pipe_said nodes line (Step dt) = None
 pipe_said nodes line (Steps count) = None
-pipe_said nodes line (Reservoir name head) = None
-pipe_said nodes line (Junction name start) = None
-pipe_said nodes line (PipeLine name first last long flow) = Some (pipe nodes line name first last long flow)
+pipe_said nodes line (Reservoir name elevation head) = None
+pipe_said nodes line (Junction name elevation start) = None
+pipe_said nodes line (PipeLine name first last numbers) = Some (pipe nodes line name first last numbers)
 pipe_said nodes line Other = None
 
 -- the pipes of these lines in file order, of which the first has the number `line`

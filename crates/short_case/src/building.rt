@@ -11,15 +11,25 @@ use std::alloc::{AllocError, Global};
 fn node_said(line: u32, entry: &Entry) -> Option<Node>
     ensures { result ≡ node_said line entry.now }
 {
-    let (name, kind) = match entry {
-        Entry::Reservoir { name, head } => (
+    let (name, elevation, kind) = match entry {
+        Entry::Reservoir {
+            name,
+            elevation,
+            head,
+        } => (
             *name,
+            *elevation,
             NodeKind::Reservoir {
                 head: Value::Fixed(*head),
             },
         ),
-        Entry::Junction { name, start } => (
+        Entry::Junction {
+            name,
+            elevation,
+            start,
+        } => (
             *name,
+            *elevation,
             NodeKind::Junction {
                 demand: Value::Fixed(0),
                 start: *start,
@@ -30,13 +40,13 @@ fn node_said(line: u32, entry: &Entry) -> Option<Node>
     Some(Node {
         name,
         line,
-        elevation: 0,
+        elevation,
         kind,
     })
 }
 
 // Adds what was found, if anything.
-pub(crate) fn add<T: Drop>(list: &mut Vec<T>, found: Option<T>) -> Result<(), AllocError>
+fn add<T: Drop>(list: &mut Vec<T>, found: Option<T>) -> Result<(), AllocError>
     ensures { IfOk result (λ u. list.new.items ≡ list.old.items ++ cons_option found []) }
 {
     if let Some(item) = found {
@@ -72,8 +82,7 @@ fn node_index(nodes: &[Node], name: &Name) -> u32
 
 // The pipe that a line says, if any.
 fn pipe_said(nodes: &[Node], line: u32, entry: &Entry) -> Option<Pipe>
-    requires few { length nodes.now < 2 ^ 32 }
-    requires sound { IsSound entry.now }
+    requires { length nodes.now < 2 ^ 32 }
     ensures { result ≡ pipe_said nodes.now line entry.now }
 {
     match entry {
@@ -81,18 +90,17 @@ fn pipe_said(nodes: &[Node], line: u32, entry: &Entry) -> Option<Pipe>
             name,
             first,
             last,
-            length,
-            flow,
+            numbers,
         } => Some(Pipe {
             name: *name,
             line,
             first: node_index(nodes, first),
             last: node_index(nodes, last),
-            length: *length as i64,
-            diameter: 1_000,
-            speed: 1_000_000,
-            friction: 0,
-            flow: *flow,
+            length: numbers.length,
+            diameter: numbers.diameter,
+            speed: numbers.speed,
+            friction: numbers.friction,
+            flow: numbers.flow,
         }),
         _ => None,
     }
@@ -102,7 +110,6 @@ fn pipe_said(nodes: &[Node], line: u32, entry: &Entry) -> Option<Pipe>
 fn pipes(alloc: Global, nodes: &[Node], entries: &[Entry]) -> Result<Vec<Pipe>, AllocError>
     requires few { length nodes.now < 2 ^ 32 }
     requires short { length entries.now < 2 ^ 32 - 1 }
-    requires sound { AllByRecursion IsSound entries.now }
     ensures { IfOk result (λ v. v.items ≡ pipes_from nodes.now 1 entries.now) }
 {
     let mut pipes = Vec::new(alloc);

@@ -1,7 +1,8 @@
 ghost use Rattle.std.specs.Prelude.{◌≡◌, ◌==◌, ◌&&◌, ◌≤◌, ◌≤ℤ◌, nat_lt, nat_le, length, map, codes, pos, neg_ℤ, IsTrue, IfSome, unsigned_abs};
-ghost use Rattle.short_case.specs.Entries.{parts, field as field_at, number_within as number_of_field, is_name as names, is_heading_line as says_heading, is_step_line as says_step, is_steps_line as says_steps, is_reservoir_line as says_reservoir, is_junction_line as says_junction, is_pipe_line as says_pipe, step_entry as step_of, steps_entry as steps_of, reservoir_entry as reservoir_of, junction_entry as junction_of, pipe_entry as pipe_of, line_entry as line_says, open_entry as open_says};
+ghost use Rattle.short_case.specs.Entries.{parts, field as field_at, number_within as number_of_field, is_name as names, is_heading_line as says_heading, is_step_line as says_step, is_steps_line as says_steps, is_reservoir_line as says_reservoir, is_junction_line as says_junction, is_pipe_line as says_pipe, step_entry as step_of, steps_entry as steps_of, elevation_of, head_of, length_of, diameter_of, speed_of, friction_of, flow_of, reservoir_entry as reservoir_of, junction_entry as junction_of, numbers_of, pipe_entry as pipe_of, line_entry as line_says, open_entry as open_says};
 ghost use Rattle.short_case.specs.Named.{IsNamed};
-ghost use Rattle.short_case.specs.Sound.{IsSound};
+ghost use Rattle.case_model.specs.Limits.{IsWithin};
+ghost use Rattle.short_case.specs.Sound.{IsSound, ArePipeNumbers};
 
 use crate::fields::{field, is_name, is_word, number_within};
 use case_model::Name;
@@ -21,26 +22,42 @@ pub enum Entry {
     Steps {
         count: u64,
     },
-    /// A reservoir and its head, in 1e-6 m.
+    /// A reservoir, its elevation and its head, in 1e-6 m.
     Reservoir {
         name: Name,
+        elevation: i64,
         head: i64,
     },
-    /// A junction and its head at step 0, in 1e-6 m.
+    /// A junction, its elevation and its head at step 0, in 1e-6 m.
     Junction {
         name: Name,
+        elevation: i64,
         start: i64,
     },
-    /// A pipe, the names of its nodes, its length in 1e-3 m and its flow at step 0 in 1e-9 m3/s.
+    /// A pipe, the names of its nodes, and its numbers.
     Pipe {
         name: Name,
         first: Name,
         last: Name,
-        length: u64,
-        flow: i64,
+        numbers: PipeNumbers,
     },
     /// None of these.
     Other,
+}
+
+/// The numbers of a pipe line.
+#[derive(Clone, Copy, Debug, PartialEq, Eq)]
+pub struct PipeNumbers {
+    /// Length, in 1e-3 m.
+    pub length: i64,
+    /// Diameter, in 1e-3 m.
+    pub diameter: i64,
+    /// Wave speed, in 1e-3 m/s.
+    pub speed: i64,
+    /// Friction factor, in 1e-6.
+    pub friction: i64,
+    /// Flow at step 0, in 1e-9 m3/s.
+    pub flow: i64,
 }
 
 /// What a line with a line end says, by its fields.
@@ -60,18 +77,17 @@ pub(crate) fn line_entry(fields: &[&[u8]]) -> Entry
         return steps_entry(field(fields, 1));
     }
     if is_reservoir_line(fields) {
-        return reservoir_entry(field(fields, 1), field(fields, 3));
+        return reservoir_entry(field(fields, 1), field(fields, 2), field(fields, 3));
     }
     if is_junction_line(fields) {
-        return junction_entry(field(fields, 1), field(fields, 4));
+        return junction_entry(field(fields, 1), field(fields, 2), field(fields, 4));
     }
     if is_pipe_line(fields) {
         return pipe_entry(
             field(fields, 1),
             field(fields, 2),
             field(fields, 3),
-            field(fields, 4),
-            field(fields, 8),
+            pipe_numbers(fields),
         );
     }
     Entry::Other
@@ -111,10 +127,7 @@ fn is_steps_line(fields: &[&[u8]]) -> bool
 fn is_reservoir_line(fields: &[&[u8]]) -> bool
     ensures { result ≡ says_reservoir (map (λ f. f.now) fields.now) }
 {
-    fields.len() == 4
-        && is_word(fields, 0, b"reservoir")
-        && is_name(field(fields, 1))
-        && is_word(fields, 2, b"0")
+    fields.len() == 4 && is_word(fields, 0, b"reservoir") && is_name(field(fields, 1))
 }
 
 fn is_junction_line(fields: &[&[u8]]) -> bool
@@ -123,7 +136,6 @@ fn is_junction_line(fields: &[&[u8]]) -> bool
     fields.len() == 5
         && is_word(fields, 0, b"junction")
         && is_name(field(fields, 1))
-        && is_word(fields, 2, b"0")
         && is_word(fields, 3, b"0")
 }
 
@@ -135,9 +147,6 @@ fn is_pipe_line(fields: &[&[u8]]) -> bool
         && is_name(field(fields, 1))
         && is_name(field(fields, 2))
         && is_name(field(fields, 3))
-        && is_word(fields, 5, b"1")
-        && is_word(fields, 6, b"1000")
-        && is_word(fields, 7, b"0")
 }
 
 fn step_entry(text: &[u8]) -> Entry
@@ -164,71 +173,103 @@ fn steps_entry(text: &[u8]) -> Entry
     }
 }
 
+// A level of a node with at most 6 places, of a size up to 10,000 m, in 1e-6 m.
+fn elevation_within(text: &[u8]) -> Option<i64>
+    ensures value { result ≡ elevation_of text.now }
+    ensures limits { IfSome result (λ x. unsigned_abs x ≤ 10_000_000_000) }
+{
+    number_within(text, 6, -10_000_000_000, 10_000_000_000)
+}
+
 // A head with at most 6 places, of a size up to 100,000 m, in 1e-6 m.
 fn head_within(text: &[u8]) -> Option<i64>
-    ensures value { result ≡ number_of_field 6 (neg_ℤ (pos 100_000_000_000)) (pos 100_000_000_000) text.now }
+    ensures value { result ≡ head_of text.now }
     ensures limits { IfSome result (λ x. unsigned_abs x ≤ 100_000_000_000) }
 {
     number_within(text, 6, -100_000_000_000, 100_000_000_000)
 }
 
-fn reservoir_entry(name: &[u8], head: &[u8]) -> Entry
+fn reservoir_entry(name: &[u8], elevation: &[u8], head: &[u8]) -> Entry
     requires { IsTrue (names name.now) }
-    ensures value { result ≡ reservoir_of name.now (number_of_field 6 (neg_ℤ (pos 100_000_000_000)) (pos 100_000_000_000) head.now) }
+    ensures value { result ≡ reservoir_of name.now (elevation_of elevation.now) (head_of head.now) }
     ensures sound { IsSound result }
     ensures named { IsNamed result }
 {
-    match head_within(head) {
-        Some(head) => Entry::Reservoir {
-            name: Name::of(name),
-            head,
-        },
-        None => Entry::Other,
+    let Some(elevation) = elevation_within(elevation) else {
+        return Entry::Other;
+    };
+    let Some(head) = head_within(head) else {
+        return Entry::Other;
+    };
+    Entry::Reservoir {
+        name: Name::of(name),
+        elevation,
+        head,
     }
 }
 
-fn junction_entry(name: &[u8], start: &[u8]) -> Entry
+fn junction_entry(name: &[u8], elevation: &[u8], start: &[u8]) -> Entry
     requires { IsTrue (names name.now) }
-    ensures value { result ≡ junction_of name.now (number_of_field 6 (neg_ℤ (pos 100_000_000_000)) (pos 100_000_000_000) start.now) }
+    ensures value { result ≡ junction_of name.now (elevation_of elevation.now) (head_of start.now) }
     ensures sound { IsSound result }
     ensures named { IsNamed result }
 {
-    match head_within(start) {
-        Some(start) => Entry::Junction {
-            name: Name::of(name),
-            start,
-        },
-        None => Entry::Other,
+    let Some(elevation) = elevation_within(elevation) else {
+        return Entry::Other;
+    };
+    let Some(start) = head_within(start) else {
+        return Entry::Other;
+    };
+    Entry::Junction {
+        name: Name::of(name),
+        elevation,
+        start,
     }
 }
 
 // A flow with at most 9 places, of a size up to 1,000 m3/s, in 1e-9 m3/s.
 fn flow_within(text: &[u8]) -> Option<i64>
-    ensures value { result ≡ number_of_field 9 (neg_ℤ (pos 1_000_000_000_000)) (pos 1_000_000_000_000) text.now }
+    ensures value { result ≡ flow_of text.now }
     ensures limits { IfSome result (λ x. unsigned_abs x ≤ 1_000_000_000_000) }
 {
     number_within(text, 9, -1_000_000_000_000, 1_000_000_000_000)
 }
 
-fn pipe_entry(name: &[u8], first: &[u8], last: &[u8], length: &[u8], flow: &[u8]) -> Entry
+// The numbers in the fields of a pipe line, where each is within its limits.
+fn pipe_numbers(fields: &[&[u8]]) -> Option<PipeNumbers>
+    ensures value { result ≡ numbers_of (map (λ f. f.now) fields.now) }
+    ensures limits { IfSome result ArePipeNumbers }
+{
+    let length = number_within(field(fields, 4), 3, 1, 1_000_000_000)?;
+    let diameter = number_within(field(fields, 5), 3, 20, 10_000)?;
+    let speed = number_within(field(fields, 6), 3, 10_000, 2_000_000)?;
+    let friction = number_within(field(fields, 7), 6, 0, 500_000)?;
+    let flow = flow_within(field(fields, 8))?;
+    Some(PipeNumbers {
+        length,
+        diameter,
+        speed,
+        friction,
+        flow,
+    })
+}
+
+fn pipe_entry(name: &[u8], first: &[u8], last: &[u8], numbers: Option<PipeNumbers>) -> Entry
     requires name { IsTrue (names name.now) }
     requires first { IsTrue (names first.now) }
     requires last { IsTrue (names last.now) }
-    ensures value { result ≡ pipe_of name.now first.now last.now (number_of_field 3 (pos 1) (pos 1_000_000_000) length.now) (number_of_field 9 (neg_ℤ (pos 1_000_000_000_000)) (pos 1_000_000_000_000) flow.now) }
+    requires limits { IfSome numbers ArePipeNumbers }
+    ensures value { result ≡ pipe_of name.now first.now last.now numbers }
     ensures sound { IsSound result }
     ensures named { IsNamed result }
 {
-    let Some(length) = number_within(length, 3, 1, 1_000_000_000) else {
-        return Entry::Other;
-    };
-    let Some(flow) = flow_within(flow) else {
-        return Entry::Other;
-    };
-    Entry::Pipe {
-        name: Name::of(name),
-        first: Name::of(first),
-        last: Name::of(last),
-        length: length as u64,
-        flow,
+    match numbers {
+        Some(numbers) => Entry::Pipe {
+            name: Name::of(name),
+            first: Name::of(first),
+            last: Name::of(last),
+            numbers,
+        },
+        None => Entry::Other,
     }
 }

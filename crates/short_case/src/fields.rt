@@ -1,5 +1,6 @@
 ghost use Rattle.std.specs.Prelude.{◌≡◌, ◌==◌, ◌&&◌, ◌≤◌, ◌≤ℤ◌, nat_lt, nat_le, length, map, codes, pos, IfSome, IfOk, unsigned_abs};
 ghost use Rattle.std.specs.List.{list_all};
+ghost use Rattle.case_model.specs.Limits.{IsWithin};
 ghost use Rattle.short_case.specs.Entries.{field as field_at, is_word as says, is_name as names, is_name_byte as in_name, limited as within, number_within as number_of_field};
 
 use fixed_num::{NumberFault, read_decimal};
@@ -42,14 +43,14 @@ fn is_name_byte(byte: u8) -> bool
 pub(crate) fn number_within(text: &[u8], places: u32, low: i64, high: i64) -> Option<i64>
     requires { places ≤ 12 }
     ensures value { result ≡ number_of_field places low high text.now }
-    ensures limits { IfSome result (λ x. (low ≤ℤ x) × (x ≤ℤ high)) }
+    ensures limits { IfSome result (λ x. IsWithin low high x) }
 {
     limited(low, high, read_decimal(text, places))
 }
 
 fn limited(low: i64, high: i64, number: Result<i64, NumberFault>) -> Option<i64>
     ensures value { result ≡ within low high number }
-    ensures limits { IfSome result (λ x. (low ≤ℤ x) × (x ≤ℤ high)) }
+    ensures limits { IfSome result (λ x. IsWithin low high x) }
 {
     match number {
         Ok(x) => { if low <= x && x <= high { Some(x) } else { None } }

@@ -1,7 +1,7 @@
 ghost use Rattle.std.specs.Prelude.{◌≡◌, ℕ, ◌+◌, ◌/◌, ◌%◌, ◌==◌, ◌&&◌, ◌||◌, ◌≤◌, ◌⊎◌, nat_lt, nat_le, not, length, IsTrue, IfSome, MatchOption};
 ghost use Rattle.std.specs.List.{list_any};
 ghost use Rattle.std.specs.Str.{bytes_eq};
-ghost use Rattle.short_case.specs.Short.{breaks, names_unknown as is_unknown_after, is_in_place as is_placed_after, is_node_in_place as is_node_after, is_pipe_in_place as is_pipe_after, is_heading as says_heading, is_pipe as says_pipe, is_named as is_of_name, is_node_named as is_node_of_name, is_divided as is_whole_division, dt_of as time_step, dt_said};
+ghost use Rattle.short_case.specs.Short.{breaks, names_unknown as is_unknown_after, is_in_place as is_placed_after, is_node_in_place as is_node_after, is_pipe_in_place as is_pipe_after, is_heading as says_heading, is_pipe as says_pipe, is_named as is_of_name, is_node_named as is_node_of_name};
 
 use crate::entry::Entry;
 use case_model::Name;
@@ -88,7 +88,8 @@ fn is_named(name: &Name, entry: &Entry) -> bool
     }
 }
 
-fn has_pipe(lines: &[Entry]) -> bool
+/// Whether a line is that of a pipe.
+pub(crate) fn has_pipe(lines: &[Entry]) -> bool
     ensures { result ≡ list_any says_pipe lines.now }
 {
     lines.iter().any(|e| is_pipe(e))
@@ -112,43 +113,23 @@ fn lacks_node(lines: &[Entry], first: &Name, last: &Name) -> bool
     !has_node(lines, first) || !has_node(lines, last)
 }
 
-// The time step that line 2 says, in 1e-6 s.
-fn dt_of(lines: &[Entry]) -> u64
-    ensures { result ≡ time_step lines.now }
-{
-    match lines.get(1) {
-        Some(Entry::Step { dt }) => *dt,
-        _ => 0,
-    }
-}
-
-// Whether a length in 1e-3 m is a whole number of reaches, from 2 to 65,536, at 1,000 m/s.
-fn is_divided(dt: u64, length: u64) -> bool
-    ensures { result ≡ is_whole_division dt length }
-{
-    dt > 0 && length % dt == 0 && 2 <= length / dt && length / dt <= 65_536
-}
-
 fn is_node_in_place(before: &[Entry], name: &Name) -> bool
     ensures { result ≡ is_node_after before.now name.now }
 {
     before.len() >= 3 && !has_pipe(before) && !has_name(before, name)
 }
 
-fn is_pipe_in_place(before: &[Entry], name: &Name, first: &Name, last: &Name, length: u64) -> bool
-    ensures { result ≡ is_pipe_after before.now name.now first.now last.now length }
+fn is_pipe_in_place(before: &[Entry], name: &Name, first: &Name, last: &Name) -> bool
+    ensures { result ≡ is_pipe_after before.now name.now first.now last.now }
 {
-    before.len() >= 4
-        && !has_name(before, name)
-        && first.as_bytes() != last.as_bytes()
-        && is_divided(dt_of(before), length)
+    before.len() >= 4 && !has_name(before, name) && first.as_bytes() != last.as_bytes()
 }
 
 // Whether a pipe line in its place has an end at a node that no line before it defines.
-fn is_pipe_unknown(before: &[Entry], name: &Name, first: &Name, last: &Name, length: u64) -> bool
-    ensures { result ≡ (is_pipe_after before.now name.now first.now last.now length && (not (list_any (is_node_of_name first.now) before.now) || not (list_any (is_node_of_name last.now) before.now))) }
+fn is_pipe_unknown(before: &[Entry], name: &Name, first: &Name, last: &Name) -> bool
+    ensures { result ≡ (is_pipe_after before.now name.now first.now last.now && (not (list_any (is_node_of_name first.now) before.now) || not (list_any (is_node_of_name last.now) before.now))) }
 {
-    is_pipe_in_place(before, name, first, last, length) && lacks_node(before, first, last)
+    is_pipe_in_place(before, name, first, last) && lacks_node(before, first, last)
 }
 
 // Whether a line is of the form that its place after these lines asks for.
@@ -165,9 +146,8 @@ fn is_in_place(before: &[Entry], entry: &Entry) -> bool
             name,
             first,
             last,
-            length,
             ..
-        } => is_pipe_in_place(before, name, first, last, *length),
+        } => is_pipe_in_place(before, name, first, last),
         Entry::OpenHeading | Entry::Other => false,
     }
 }
@@ -181,9 +161,8 @@ fn names_unknown(before: &[Entry], entry: &Entry) -> bool
             name,
             first,
             last,
-            length,
             ..
-        } => is_pipe_unknown(before, name, first, last, *length),
+        } => is_pipe_unknown(before, name, first, last),
         Entry::Heading
         | Entry::OpenHeading
         | Entry::Step { .. }

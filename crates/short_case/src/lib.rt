@@ -7,14 +7,13 @@ mod entry;
 mod fields;
 mod judge;
 mod lines;
-mod meshing;
 mod parts;
 mod reading;
 mod refusals;
 
 pub use lines::LineFault;
 pub use reading::{MOST_BYTES, read_case};
-pub use refusals::refusals_are_least;
+pub use refusals::refusals_are_first;
 
 #[cfg(test)]
 mod line_tests;

@@ -3,10 +3,10 @@ ghost use Rattle.std.specs.List.{AllByRecursion};
 ghost use Rattle.short_case.specs.Entries.{parts, line_entry as line_says, open_entry as open_says, entries};
 ghost use Rattle.short_case.specs.Named.{IsNamed};
 ghost use Rattle.short_case.specs.Reading.{refusal_in};
-ghost use Rattle.short_case.specs.Sets.{IsEmpty, IsLeast};
+ghost use Rattle.case_model.specs.Sets.{IsEmpty, IsLeast};
 ghost use Rattle.short_case.specs.Short.{line_rules};
-ghost use Rattle.short_case.specs.ShortMesh.{refusal_of};
 ghost use Rattle.short_case.specs.Sound.{IsSound};
+ghost use Rattle.short_case.specs.Verdict.{refusal_of};
 
 use crate::entry::{Entry, line_entry, open_entry};
 use crate::judge::judge;
@@ -31,7 +31,6 @@ pub(crate) fn read_lines(alloc: Global, bytes: &[u8]) -> Result<Vec<Entry>, Line
     requires { length bytes.now ≤ 65_536 }
     ensures lines { IfOk result (λ v. v.items ≡ entries bytes.now) }
     ensures kept { IfOk result (λ v. IsEmpty (line_rules (entries bytes.now))) }
-    ensures unrefused { IfOk result (λ v. refusal_of (entries bytes.now) ≡ None) }
     ensures few { IfOk result (λ v. length v.items ≤ length bytes.now) }
     ensures sound { IfOk result (λ v. AllByRecursion IsSound v.items) }
     ensures named { IfOk result (λ v. AllByRecursion IsNamed v.items) }

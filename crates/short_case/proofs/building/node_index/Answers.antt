@@ -1,7 +1,7 @@
 use Rattle.std.proofs.Common.{◌≡◌, length, arith, sym}
 use Rattle.std.specs.Str.{bytes_eq}
 use Rattle.std.proofs.lemmas.List.Sums.{position_or_len_is}
-use Rattle.short_law.specs.Laws.{no_node}
+use Rattle.case_model.specs.Parts.{no_node}
 use Rattle.short_case.proofs.building.node_index.Goals as goal
 
 pub returns-then-eq : goal.returns-then-eq

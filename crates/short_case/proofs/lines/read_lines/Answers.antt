@@ -1,6 +1,6 @@
-use Rattle.std.proofs.Common.{◌+◌, ◌∙◌, sym, rules}
+use Rattle.std.proofs.Common.{◌+◌, ◌∙◌, sym, inl, rules}
 use Rattle.short_case.specs.Entries.{entries}
-use Rattle.short_case.proofs.LeastPair.{refusal_is, refusal_none}
+use Rattle.short_case.proofs.Bounded.{refusal_is}
 use Rattle.short_case.proofs.LinesRead.{refused_least, none_least, all_kept, read_out, no_lines}
 use Rattle.short_case.proofs.lines.read_lines.Goals as goal
 
@@ -11,7 +11,7 @@ returns-in-Some-clause-least c =
     (search rules) (search rules) c.loop-rest.invariant.kept j.0 j.1
 
 pub returns-in-Some-clause-refused : goal.returns-in-Some-clause-refused
-returns-in-Some-clause-refused c = refusal_is (entries c.args.bytes.now) (c.len.result + 1) c.in-Some.number (returns-in-Some-clause-least c)
+returns-in-Some-clause-refused c = refusal_is (entries c.args.bytes.now) (c.len.result + 1) c.in-Some.number (inl (returns-in-Some-clause-least c))
 
 pub returns-then-is_empty-clause-least : goal.returns-then-is_empty-clause-least
 returns-then-is_empty-clause-least c =
@@ -20,7 +20,7 @@ returns-then-is_empty-clause-least c =
     ∙ no_lines c.loop-rest.found.items (search rules))
 
 pub returns-then-is_empty-clause-refused : goal.returns-then-is_empty-clause-refused
-returns-then-is_empty-clause-refused c = refusal_is (entries c.args.bytes.now) 1 1 (returns-then-is_empty-clause-least c)
+returns-then-is_empty-clause-refused c = refusal_is (entries c.args.bytes.now) 1 1 (inl (returns-then-is_empty-clause-least c))
 
 pub returns-clause-lines : goal.returns-clause-lines
 returns-clause-lines c = read_out (entries c.args.bytes.now) c.loop-rest.found.items c.loop-rest.rest.now c.loop-rest.invariant.lines c.loop-rest-test.ensures
@@ -29,6 +29,3 @@ pub returns-clause-kept : goal.returns-clause-kept
 returns-clause-kept c =
     let e = returns-clause-lines c in
     all_kept (entries c.args.bytes.now) (rw (← e) (search rules)) (let k = c.loop-rest.invariant.kept in rw e at k)
-
-pub returns-clause-unrefused : goal.returns-clause-unrefused
-returns-clause-unrefused c = refusal_none (entries c.args.bytes.now) (returns-clause-kept c)

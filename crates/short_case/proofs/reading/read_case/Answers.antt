@@ -1,47 +1,50 @@
-use Rattle.std.proofs.Common.{◌≡◌, true, arith, subst}
-use Rattle.std.specs.List.{AllByRecursion}
+use Rattle.std.proofs.Common.{◌≡◌, true, false, arith, rules, subst}
+use Rattle.std.specs.List.{list_any, AllByRecursion}
+use Rattle.case_model.specs.Sets.{IsFirst}
+use Rattle.case_model.specs.Refusals.{passes}
 use Rattle.short_case.specs.Entries.{entries}
+use Rattle.short_case.specs.Short.{case_of, is_pipe}
 use Rattle.short_case.specs.Sound.{IsSound}
-use Rattle.short_case.specs.Short.{case_of}
-use Rattle.short_case.specs.ShortMesh.{mesh_of, is_whole}
-use Rattle.short_case.proofs.Counted.{entries_few, case_nodes_few, case_pipes_few}
-use Rattle.short_case.proofs.Fits.{computable}
-use Rattle.short_case.proofs.Small.{small}
+use Rattle.short_case.proofs.Judged.{unpiped, undivided, divided, fulfilled, small}
+use Rattle.short_case.proofs.Readable.{is_read}
 use Rattle.short_case.proofs.reading.read_case.Goals as goal
 
-pub case_of-requires-clause-short : goal.case_of-requires-clause-short
-case_of-requires-clause-short c =
+pub returns-then-not-has_pipe-clause-refused : goal.returns-then-not-has_pipe-clause-refused
+returns-then-not-has_pipe-clause-refused c =
     let e : c.deref.result.now ≡ entries c.args.bytes.now = cc (c.in_ok-entries.ensures.lines, c.deref.ensures.value) in
-    rw e (omega (arith, entries_few c.args.bytes.now))
+    let n : list_any is_pipe (entries c.args.bytes.now) ≡ false = rw (← e) (grind arith) in
+    unpiped c.args.bytes.now (omega arith) c.in_ok-entries.ensures.kept n
 
-pub mesh_of-requires-clause-nodes : goal.mesh_of-requires-clause-nodes
-mesh_of-requires-clause-nodes c =
+pub divide-requires : goal.divide-requires
+divide-requires c =
     let e : c.deref.result.now ≡ entries c.args.bytes.now = cc (c.in_ok-entries.ensures.lines, c.deref.ensures.value) in
-    let k : c.in-Ok.case ≡ case_of (entries c.args.bytes.now) = cc (c.in-Ok.ensures) in
-    rw k (omega (arith, entries_few c.args.bytes.now, case_nodes_few (entries c.args.bytes.now)))
-
-pub mesh_of-requires-clause-pipes : goal.mesh_of-requires-clause-pipes
-mesh_of-requires-clause-pipes c =
-    let e : c.deref.result.now ≡ entries c.args.bytes.now = cc (c.in_ok-entries.ensures.lines, c.deref.ensures.value) in
-    let k : c.in-Ok.case ≡ case_of (entries c.args.bytes.now) = cc (c.in-Ok.ensures) in
-    rw k (omega (arith, entries_few c.args.bytes.now, case_pipes_few (entries c.args.bytes.now)))
-
-pub returns-in-Ok-Some-clause-computable : goal.returns-in-Ok-Some-clause-computable
-returns-in-Ok-Some-clause-computable c =
-    let e : c.deref.result.now ≡ entries c.args.bytes.now = cc (c.in_ok-entries.ensures.lines, c.deref.ensures.value) in
+    let t : list_any is_pipe (entries c.args.bytes.now) ≡ true = rw (← e) (grind arith) in
     let k : c.in-Ok.case ≡ case_of (entries c.args.bytes.now) = cc (c.in-Ok.ensures) in
     let s : AllByRecursion IsSound (entries c.args.bytes.now) = subst (AllByRecursion IsSound) c.in_ok-entries.ensures.lines c.in_ok-entries.ensures.sound in
-    let h = rw c.in-Ok-Some.field-0-is at c.in-Ok-Some.ensures in
-    let m : c.in-Ok-Some.mesh ≡ mesh_of (case_of (entries c.args.bytes.now)) = cc (h.0) in
-    let w : is_whole (mesh_of (case_of (entries c.args.bytes.now))) ≡ true = cc (h.1) in
-    rw (m, k) (computable (entries c.args.bytes.now) s c.in_ok-entries.ensures.kept w)
+    rw k (is_read c.args.bytes.now (omega arith) s c.in_ok-entries.ensures.kept t)
 
-pub returns-in-Ok-Some-clause-small : goal.returns-in-Ok-Some-clause-small
-returns-in-Ok-Some-clause-small c =
+pub returns-in-Ok-divide-clause-accepted : goal.returns-in-Ok-divide-clause-accepted
+returns-in-Ok-divide-clause-accepted c =
     let e : c.deref.result.now ≡ entries c.args.bytes.now = cc (c.in_ok-entries.ensures.lines, c.deref.ensures.value) in
+    let t : list_any is_pipe (entries c.args.bytes.now) ≡ true = rw (← e) (grind arith) in
+    let k : c.in-Ok.case ≡ case_of (entries c.args.bytes.now) = cc (c.in-Ok.ensures) in
+    divided c.args.bytes.now c.in-Ok.case c.in-Ok-divide.mesh (omega arith) k c.in-Ok-divide.ensures.mesh c.in_ok-entries.ensures.kept t c.in-Ok-divide.ensures.accepted
+
+pub returns-in-Ok-divide-clause-fulfilled : goal.returns-in-Ok-divide-clause-fulfilled
+returns-in-Ok-divide-clause-fulfilled c =
+    let e : c.deref.result.now ≡ entries c.args.bytes.now = cc (c.in_ok-entries.ensures.lines, c.deref.ensures.value) in
+    let t : list_any is_pipe (entries c.args.bytes.now) ≡ true = rw (← e) (grind arith) in
     let k : c.in-Ok.case ≡ case_of (entries c.args.bytes.now) = cc (c.in-Ok.ensures) in
     let s : AllByRecursion IsSound (entries c.args.bytes.now) = subst (AllByRecursion IsSound) c.in_ok-entries.ensures.lines c.in_ok-entries.ensures.sound in
-    let h = rw c.in-Ok-Some.field-0-is at c.in-Ok-Some.ensures in
-    let m : c.in-Ok-Some.mesh ≡ mesh_of (case_of (entries c.args.bytes.now)) = cc (h.0) in
-    let w : is_whole (mesh_of (case_of (entries c.args.bytes.now))) ≡ true = cc (h.1) in
-    rw (m, k) (small (entries c.args.bytes.now) s w)
+    fulfilled c.args.bytes.now c.in-Ok.case c.in-Ok-divide.mesh (omega arith) k c.in-Ok-divide.ensures.mesh s c.in_ok-entries.ensures.kept t c.in-Ok-divide.ensures.accepted c.in-Ok-divide.ensures.good c.in-Ok-divide.ensures.numbered
+
+pub returns-in-Ok-divide-clause-small : goal.returns-in-Ok-divide-clause-small
+returns-in-Ok-divide-clause-small c = small c.in-Ok.case c.in-Ok-divide.mesh (returns-in-Ok-divide-clause-fulfilled c)
+
+pub returns-in-Err-Refused-clause-refused : goal.returns-in-Err-Refused-clause-refused
+returns-in-Err-Refused-clause-refused c =
+    let e : c.deref.result.now ≡ entries c.args.bytes.now = cc (c.in_ok-entries.ensures.lines, c.deref.ensures.value) in
+    let t : list_any is_pipe (entries c.args.bytes.now) ≡ true = rw (← e) (grind arith) in
+    let k : c.in-Ok.case ≡ case_of (entries c.args.bytes.now) = cc (c.in-Ok.ensures) in
+    let f : IsFirst (passes c.in-Ok.case) c.in-Err-Refused.line c.in-Err-Refused.number = c.in-Err-Refused.ensures.refused c.in-Err-Refused.number c.in-Err-Refused.line (search rules) in
+    undivided c.args.bytes.now c.in-Ok.case c.in-Err-Refused.line c.in-Err-Refused.number (omega arith) k c.in_ok-entries.ensures.kept t f
