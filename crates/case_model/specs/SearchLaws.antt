@@ -1,7 +1,7 @@
 -- The search for a refusal finds the least pair of the first pass that has one, where the passes hold
 -- no pair beyond the lines and numbers that are searched.
-use Rattle.std.proofs.Common.{ℕ, zero, suc, ◌+◌, ◌<◌, ◌≤◌, ◌≡◌, ◌==◌, ◌⊎◌, inl, inr, true, false, Bool, cond, IsTrue, List, [], ◌∷◌, Option, Some, None, ap, subst, sym, ◌∙◌, refl, arith}
-use Rattle.std.specs.List.{find, list_any, range_with_len, AllByRecursion}
+use Rattle.std.proofs.Common.{ℕ, zero, suc, ◌+◌, ◌<◌, ◌≤◌, ◌≡◌, ◌⊎◌, inl, inr, true, false, Bool, cond, IsTrue, List, [], ◌∷◌, Option, Some, None, ap, subst, sym, ◌∙◌, refl, arith}
+use Rattle.std.specs.List.{find, range_with_len}
 use Rattle.case_model.specs.Sets.{Rules, IsEmpty, IsLeast, AreEmpty, IsFirst}
 use Rattle.case_model.specs.Search.{Refusal, found_on, least_of, or_found, first_of}
 

@@ -1,10 +1,11 @@
 -- The sizes of rounded quotients of the laws.
-use Rattle.std.proofs.Common.{ℕ, zero, suc, ◌+◌, ◌*◌, ◌<◌, ◌≤◌, ℤ, pos, ◌*ℤ◌, ◌≤ℤ◌, unsigned_abs, ⊎_elim, w64, FitsSigned, arith}
+use Rattle.std.proofs.Common.{ℕ, suc, ◌+◌, ◌*◌, ◌<◌, ◌≤◌, ℤ, pos, ◌*ℤ◌, ◌≤ℤ◌, unsigned_abs, ⊎_elim, w64, FitsSigned, arith}
 use Rattle.std.specs.Int.{w128}
 use Rattle.std.proofs.lemmas.Int.{ints, unsigned_abs-mul, fits_signed_from_abs, fits_signed_mul}
 use Rattle.std.proofs.lemmas.Bool.{cases_lt}
 use Rattle.std.proofs.lemmas.Nat.{mul-le, le-div, div_below}
-use Rattle.short_law.specs.Laws.{IsImpedance, admittance}
+use Rattle.charline.specs.Characteristics.{IsImpedance}
+use Rattle.short_law.specs.Laws.{admittance}
 use Rattle.fixed_num.specs.Rounding.{rnd, half_up}
 
 pub fits : (z : ℤ) → unsigned_abs z ≤ 1000000000000000000 → FitsSigned w64 z
@@ -12,26 +13,6 @@ fits z h = fits_signed_from_abs w64 z (omega arith)
 
 pub size_of_impedance : (b : ℤ) → IsImpedance b → unsigned_abs b ≤ 10000000000000
 size_of_impedance b h = omega (arith, ints)
-
--- the head of a flow at an impedance
-pub head_below : (b q x : ℤ) → IsImpedance b → unsigned_abs q ≤ 1000000000000 → 2 * unsigned_abs x * 1000000000 ≤ 2 * unsigned_abs (b *ℤ q) + 1000000000 → unsigned_abs x ≤ 10000000000000000
-head_below b q x h k m =
-    let s : unsigned_abs (b *ℤ q) ≤ 10000000000000 * 1000000000000 = rw (unsigned_abs-mul b q) (mul-le (unsigned_abs b) (unsigned_abs q) 10000000000000 1000000000000 (size_of_impedance b h) k) in
-    omega arith
-
-quotient_below : (x b n : ℕ) → 100000 ≤ b → n ≤ 20000000000000000000000 → 2 * x * b ≤ 2 * n + b → x ≤ 200000000000000000
-quotient_below zero b n h k m = omega arith
-quotient_below (suc x) b n h k m =
-    let e : (2 * x + 1) * 100000 ≤ (2 * x + 1) * b = mul-le (2 * x + 1) 100000 (2 * x + 1) b (omega arith) h in omega arith
-
--- the flow that a difference of heads drives
-pub flow_below : (head b x : ℤ) → unsigned_abs head ≤ 20000000000000 → pos 100000 ≤ℤ b → 2 * unsigned_abs x * unsigned_abs b ≤ 2 * unsigned_abs (head *ℤ pos 1000000000) + unsigned_abs b → unsigned_abs x ≤ 200000000000000000
-flow_below head b x h k m =
-    let s : unsigned_abs (head *ℤ pos 1000000000) ≤ 20000000000000000000000 = rw (unsigned_abs-mul head (pos 1000000000)) (omega arith) in
-    quotient_below (unsigned_abs x) (unsigned_abs b) (unsigned_abs (head *ℤ pos 1000000000)) (omega (arith, ints)) s m
-
-pub fits_product : (b q : ℤ) → IsImpedance b → unsigned_abs q ≤ 1000000000000 → FitsSigned w128 (b *ℤ q)
-fits_product b q h k = fits_signed_mul w128 b q 10000000000000 1000000000000 (size_of_impedance b h) k (omega arith)
 
 -- the weight of an arrival
 weight_least : (d : ℕ) → 0 < d → d ≤ 10000000000000 → 1000000000 ≤ half_up 10000000000000000000000 d

@@ -17,7 +17,9 @@ use Rattle.case_model.specs.declared.states.NodeState.TheVariants.{Good as GoodS
 use Rattle.case_model.specs.Meaning.{IsMeaning}
 use Rattle.case_model.specs.Range.{IsPoint, IsState, point_of, state_of}
 use Rattle.case_model.specs.Places.{is_bad_state}
-use Rattle.short_law.specs.Laws.{met, inner_point, arrive_plus, arrive_minus, state_at, reads_own, node_head, node_state, end_point, end_points, law_state, law_ends, start_point, start_node, meaning_of, IsComputable}
+use Rattle.charline.specs.Characteristics.{arrive_plus, arrive_minus}
+use Rattle.charline.specs.Interior.{liquid_if, liquid_point}
+use Rattle.short_law.specs.Laws.{state_at, reads_own, node_head, node_state, end_point, end_points, law_state, law_ends, start_point, start_node, meaning_of, IsComputable}
 
 point_of-good : (h qu qd v : ℤ) → IsPoint (point_of h qu qd v)
 unfolding point_of
@@ -31,15 +33,15 @@ state_at-good : (h : ℤ) (arrivals : List Arrival) → IsState (state_at h arri
 unfolding state_at
 state_at-good h arrivals = grind (arith, nat_tests)
 
-met-good : (b : ℤ) (plus minus : Option ℤ) → IsPoint (met b plus minus)
-met-good b (Some plus) (Some minus) = point_of-good _ _ _ _
-met-good b (Some plus) None = tt
-met-good b None minus = tt
+liquid_if-good : (b : ℤ) (plus minus : Option ℤ) → IsPoint (liquid_if b plus minus)
+liquid_if-good b (Some plus) (Some minus) = point_of-good _ _ _ _
+liquid_if-good b (Some plus) None = tt
+liquid_if-good b None minus = tt
 
-inner_point-good : (b : ℤ) (left own right : Point) → IsPoint (inner_point b left own right)
-unfolding inner_point
-inner_point-good b left (Good h qu qd v) right = met-good b (arrive_plus b left) (arrive_minus b right)
-inner_point-good b left Bad right = tt
+liquid_point-good : (b r : ℤ) (left own right : Point) → IsPoint (liquid_point b r left own right)
+unfolding liquid_point
+liquid_point-good b r left (Good h qu qd v) right = liquid_if-good b (arrive_plus b r left) (arrive_minus b r right)
+liquid_point-good b r left Bad right = tt
 
 -- Bad, or a state in range
 unless_bad : (bad : Bool) (state : NodeState) → IsState state → IsState (cond bad BadState state)
@@ -78,7 +80,7 @@ start_node-good case k = state_of-good _ _ _
 pub meaning_of-good : (case : Case) (mesh : Mesh) → IsMeaning (meaning_of case mesh)
 unfolding meaning_of
 meaning_of-good case mesh = record {
-  inner = λ p i left own right _ _ _. inner_point-good _ left own right;
+  inner = λ p i left own right _ _ _. liquid_point-good _ _ left own right;
   node = λ k s own near _ _. law_state-good case mesh k own near;
   ends = λ k s own near _ _. law_ends-good case mesh k own near;
   start_point = start_point-good case mesh;

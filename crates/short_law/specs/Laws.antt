@@ -1,77 +1,30 @@
--- The hydraulic laws that a short case needs, in whole numbers with one rounding rule.
--- After Wylie and Streeter, Fluid Transients in Systems: characteristics, reservoir, junction.
+-- The hydraulic laws that a short case needs: interior places without cavities, reservoirs, and
+-- junctions without demand. After Wylie and Streeter, Fluid Transients in Systems: reservoir, junction.
 use Rattle.std.specs.Prelude.{◌≡◌, ◌<◌, ◌≤◌, ℕ, ◌&&◌, nat_le, Bool, true, false, ℤ, pos, neg_ℤ, ◌+ℤ◌, ◌-ℤ◌, ◌*ℤ◌, ◌≤ℤ◌, unsigned_abs, Option, Some, None, if◌then◌else◌, List, [], ◌∷◌, length, map, replicate, slice_index_or}
 use Rattle.std.specs.List.{list_all}
 use Rattle.fixed_num.specs.Rounding.{rnd}
 use Rattle.case_model.specs.declared.points.Point.{Point}
-use Rattle.case_model.specs.declared.points.Point.TheVariants.{Good, Bad}
+use Rattle.case_model.specs.declared.points.Point.TheVariants.{Bad}
 use Rattle.case_model.specs.declared.states.NodeState.{NodeState}
 use Rattle.case_model.specs.declared.states.NodeState.TheVariants.{Good as GoodState, Bad as BadState}
 use Rattle.case_model.specs.declared.meshes.Arrival.{Arrival}
 use Rattle.case_model.specs.declared.meshes.End.{End}
 use Rattle.case_model.specs.declared.meshes.Mesh.{Mesh}
 use Rattle.case_model.specs.declared.cases.Case.{Case}
-use Rattle.case_model.specs.declared.cases.Node.{Node}
 use Rattle.case_model.specs.declared.cases.NodeKind.{NodeKind}
 use Rattle.case_model.specs.declared.cases.NodeKind.TheVariants.{Reservoir, Junction, Discharge, Inline, Pump, Tank, Vessel}
 use Rattle.case_model.specs.declared.cases.Value.TheVariants.{Fixed, ByTable}
-use Rattle.case_model.specs.declared.cases.Pipe.{Pipe}
 use Rattle.case_model.specs.Range.{point_of, state_of}
+use Rattle.charline.specs.Characteristics.{IsImpedance, IsResistance, arrive_plus, arrive_minus, flow_in}
+use Rattle.charline.specs.Interior.{liquid_point}
 use Rattle.case_model.specs.Meaning.{Meaning}
-use Rattle.case_model.specs.Mesh.{IsMesh, reaches, ends_of}
+use Rattle.case_model.specs.Mesh.{IsMesh, reaches, ends_of, no_pipe as no_pipe_mesh}
+use Rattle.case_model.specs.Parts.{node_at, pipe_at}
 use Rattle.case_model.specs.Places.{is_bad_state}
-
--- an impedance, in 1e-6 s/m2, within its limits
-pub record IsImpedance (b : ℤ) : Type 0 where
-  pub low : pos 100_000 ≤ℤ b
-  pub high : b ≤ℤ pos 10_000_000_000_000
-
--- an arrival whose characteristic value and impedance are within their limits
-pub record IsArrival (a : Arrival) : Type 0 where
-  pub value : unsigned_abs a.c ≤ 10_000_000_000_000
-  pub impedance : IsImpedance a.b
-
--- the head in 1e-6 m that a flow in 1e-9 m3/s stands for at an impedance in 1e-6 s/m2
-abbrev pub impedance_head : ℤ → ℤ → ℤ
-impedance_head b q = rnd (b *ℤ q) (pos 1_000_000_000)
-
--- a characteristic value within its range of 10^13
-abbrev pub in_reach : ℤ → Option ℤ
-in_reach c = if nat_le (unsigned_abs c) 10_000_000_000_000 then Some c else None
-
--- the characteristic value that leaves a point downstream (C+), without friction
-unfoldable pub arrive_plus : ℤ → Point → Option ℤ
-arrive_plus b (Good h qu qd v) = in_reach (h +ℤ impedance_head b qd)
-arrive_plus b Bad = None
-
--- the characteristic value that leaves a point upstream (C-), without friction
-unfoldable pub arrive_minus : ℤ → Point → Option ℤ
-arrive_minus b (Good h qu qd v) = in_reach (h -ℤ impedance_head b qu)
-arrive_minus b Bad = None
-
--- the flow in 1e-9 m3/s that a difference of heads in 1e-6 m drives through an impedance
-abbrev pub driven_flow : ℤ → ℤ → ℤ
-driven_flow head b = rnd (head *ℤ pos 1_000_000_000) b
-
--- the interior law without a cavity, from both characteristics
-abbrev pub met : ℤ → Option ℤ → Option ℤ → Point
-met b (Some plus) (Some minus) =
-    point_of (rnd (plus +ℤ minus) (pos 2)) (driven_flow (plus -ℤ minus) (pos 2 *ℤ b)) (driven_flow (plus -ℤ minus) (pos 2 *ℤ b)) (pos 0)
-met b (Some plus) None = Bad
-met b None minus = Bad
-
--- the interior law without a cavity: Bad where a point that it reads is
-unfoldable pub inner_point : ℤ → Point → Point → Point → Point
-inner_point b left (Good h qu qd v) right = met b (arrive_plus b left) (arrive_minus b right)
-inner_point b left Bad right = Bad
 
 -- the weight of an arrival in a sum over the ends of a node
 abbrev pub admittance : ℤ → ℤ
 admittance b = rnd (pos 10_000_000_000_000_000_000_000) b
-
--- the flow into the node, in 1e-9 m3/s, along an arrival at a head of the node
-abbrev pub flow_in : ℤ → Arrival → ℤ
-flow_in h a = driven_flow (a.c -ℤ h) a.b
 
 abbrev pub weight : Arrival → ℤ
 weight a = admittance a.b
@@ -123,29 +76,17 @@ reads_own (Pump curve speed start start2) = false
 reads_own (Tank area start) = true
 reads_own (Vessel gas volume) = true
 
--- what stands for a node or a pipe that the case doesn't have
-abbrev pub no_kind : NodeKind
-no_kind = Junction (Fixed (pos 0)) (pos 0)
-
-abbrev pub no_node : Node
-no_node = record { name = []; line = 0; elevation = pos 0; kind = no_kind }
-
-abbrev pub no_pipe : Pipe
-no_pipe = record { name = []; line = 0; first = 0; last = 0; length = pos 0; diameter = pos 0; speed = pos 0; friction = pos 0; flow = pos 0 }
-
-abbrev pub node_at : Case → ℕ → Node
-node_at case k = slice_index_or case.nodes k no_node
-
-abbrev pub pipe_at : Case → ℕ → Pipe
-pipe_at case p = slice_index_or case.pipes p no_pipe
-
--- the impedance of a pipe of the mesh
+-- the impedance of a pipe of the mesh, and the friction of one of its reaches
 abbrev pub impedance : Mesh → ℕ → ℤ
-impedance mesh p = (slice_index_or mesh.pipes p (record { reaches = 0; b = pos 0; r = pos 0; base = 0 })).b
+impedance mesh p = (slice_index_or mesh.pipes p no_pipe_mesh).b
 
--- each pipe of the mesh has an impedance within its limits
-abbrev pub HasImpedances : Mesh → Type 0
-HasImpedances mesh = (p : ℕ) → p < length mesh.pipes → IsImpedance (impedance mesh p)
+abbrev pub resistance : Mesh → ℕ → ℤ
+resistance mesh p = (slice_index_or mesh.pipes p no_pipe_mesh).r
+
+-- each pipe of the mesh has an impedance and a friction within their limits
+pub record HasCoefficients (mesh : Mesh) : Type 0 where
+  pub impedances : (p : ℕ) → p < length mesh.pipes → IsImpedance (impedance mesh p)
+  pub resistances : (p : ℕ) → p < length mesh.pipes → IsResistance (resistance mesh p)
 
 abbrev pub arrival : ℤ → Option ℤ → Option Arrival
 arrival b (Some c) = Some (record { c = c; b = b })
@@ -154,7 +95,7 @@ arrival b None = None
 -- what arrives at a node along one end, from the point beside it: C+ at a pipe's last place, C- at place 0
 abbrev pub arrival_from : Mesh → End → Point → Option Arrival
 arrival_from mesh e point =
-    arrival (impedance mesh e.pipe) (if e.at_last then arrive_plus (impedance mesh e.pipe) point else arrive_minus (impedance mesh e.pipe) point)
+    arrival (impedance mesh e.pipe) (if e.at_last then arrive_plus (impedance mesh e.pipe) (resistance mesh e.pipe) point else arrive_minus (impedance mesh e.pipe) (resistance mesh e.pipe) point)
 
 abbrev pub joined : Option Arrival → Option (List Arrival) → Option (List Arrival)
 joined (Some a) (Some arrivals) = Some (a ∷ arrivals)
@@ -224,7 +165,7 @@ start_point case mesh p i =
 unfoldable pub meaning_of : Case → Mesh → Meaning
 meaning_of case mesh = record {
   mesh = mesh;
-  inner = λ p i left own right. inner_point (impedance mesh p) left own right;
+  inner = λ p i left own right. liquid_point (impedance mesh p) (resistance mesh p) left own right;
   node = λ k step own near. law_state case mesh k own near;
   ends = λ k step own near. law_ends case mesh k own near;
   start_point = start_point case mesh;
@@ -241,4 +182,6 @@ pub record IsComputable (case : Case) (mesh : Mesh) : Type 0 where
   pub ends : (k : ℕ) → k < length mesh.ends → (1 ≤ length (ends_of mesh k)) × (length (ends_of mesh k) ≤ 8)
   pub low : (p : ℕ) → p < length mesh.pipes → pos 100_000 ≤ℤ impedance mesh p
   pub high : (p : ℕ) → p < length mesh.pipes → impedance mesh p ≤ℤ pos 10_000_000_000_000
+  pub some_friction : (p : ℕ) → p < length mesh.pipes → pos 0 ≤ℤ resistance mesh p
+  pub most_friction : (p : ℕ) → p < length mesh.pipes → resistance mesh p ≤ℤ pos 100_000_000_000_000_000_000
   pub few : (p : ℕ) → p < length mesh.pipes → reaches mesh p ≤ 65_536

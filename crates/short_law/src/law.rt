@@ -1,12 +1,17 @@
 ghost use Rattle.std.specs.Prelude.{◌≡◌};
+ghost use Rattle.case_model.specs.Division.{mesh_of};
+ghost use Rattle.case_model.specs.Limits.{IsRead};
+ghost use Rattle.case_model.specs.Mesh.{IsMesh};
+ghost use Rattle.case_model.specs.Refusals.{passes};
+ghost use Rattle.case_model.specs.Sets.{AreEmpty};
 ghost use Rattle.short_law.specs.Laws.{IsComputable, meaning_of};
 ghost use Rattle.short_law.specs.LawRange.{IsComputable-prop, meaning_of-good};
 
-use crate::arrivals::impedance;
-use crate::characteristics::inner_point;
+use crate::arrivals::{impedance, resistance};
 use crate::node_laws::law_node;
 use crate::starts::{start_node, start_point};
-use case_model::{Arrival, Case, Law, Mesh, NodeState, Point};
+use case_model::{Case, Law, Mesh, NodeState, Point};
+use charline::liquid_point;
 
 /// The hydraulics of a short case over its mesh.
 #[derive(Clone, Copy)]
@@ -17,9 +22,12 @@ pub struct ShortLaw<'a> {
 }
 
 impl<'a> ShortLaw<'a> {
-    /// The law of a case over a mesh that fits it.
+    /// The law of a case over its mesh.
     pub fn over(case: &'a Case, mesh: &'a Mesh) -> ShortLaw<'a>
-        requires { IsComputable case.now mesh.now }
+        requires read { IsRead case.now }
+        requires same { mesh.now ≡ mesh_of case.now }
+        requires accepted { AreEmpty (passes case.now) }
+        requires good { IsMesh mesh.now }
         ensures { ⟦<ShortLaw<'a> as Law>⟧.meaning result ≡ meaning_of case.now mesh.now }
     {
         ShortLaw { case, mesh }
@@ -31,7 +39,9 @@ impl<'a> Law for ShortLaw<'a> {
 
     #[tactic(auto, unfolding(crate::specs::Laws::meaning_of))]
     fn inner(&self, pipe: u32, _place: u32, left: &Point, own: &Point, right: &Point) -> Point {
-        inner_point(impedance(self.mesh, pipe), left, own, right)
+        let b = impedance(self.mesh, pipe);
+        let r = resistance(self.mesh, pipe);
+        liquid_point(b, r, left, own, right)
     }
 
     #[tactic(auto, unfolding(crate::specs::Laws::meaning_of))]

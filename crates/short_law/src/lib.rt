@@ -6,7 +6,6 @@
 #![tactic(auto)]
 
 mod arrivals;
-mod characteristics;
 mod law;
 mod node_laws;
 mod nodes;

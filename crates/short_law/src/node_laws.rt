@@ -1,13 +1,13 @@
 ghost use Rattle.std.specs.Prelude.{◌≡◌, ◌<◌, ◌≤◌, unsigned_abs, length, List, All};
 ghost use Rattle.case_model.specs.declared.meshes.End.{End as EndOf};
 ghost use Rattle.case_model.specs.Mesh.{ends_of};
+ghost use Rattle.case_model.specs.Parts.{node_at};
 ghost use Rattle.case_model.specs.Places.{is_bad_state};
 ghost use Rattle.case_model.specs.Range.{IsPoint};
+ghost use Rattle.charline.specs.Characteristics.{IsArrival};
 ghost use Rattle.short_law.specs.Laws.{
-  IsArrival,
-  HasImpedances,
+  HasCoefficients,
   IsComputable,
-  node_at,
   start_head,
   node_head,
   reads_own as reads_own_state,
@@ -64,7 +64,7 @@ fn solve(
     flows: &mut [i64],
 ) -> NodeState
     requires head_in { unsigned_abs (start_head kind.now) ≤ 100_000_000_000 }
-    requires impedances { HasImpedances mesh.now }
+    requires coefficients { HasCoefficients mesh.now }
     requires ends_in { All (λ e. e.pipe < length mesh.now.pipes) ends.now }
     requires some { 0 < length ends.now }
     requires few { length ends.now ≤ 8 }

@@ -13,22 +13,20 @@ ghost use Rattle.std.specs.Prelude.{
   All,
 };
 ghost use Rattle.std.specs.List.{list_all};
+ghost use Rattle.charline.specs.Characteristics.{IsArrival, IsImpedance, flow_in as flow_of};
 ghost use Rattle.short_law.specs.Laws.{
-  IsImpedance,
-  IsArrival,
   admittance as admittance_of,
   weight,
   weighted_head,
   sum_of,
   junction_head as head_of,
-  flow_in as flow_of,
   is_flow,
   state_at,
   flows_at,
 };
 
-use crate::characteristics::driven_flow;
 use case_model::{Arrival, NodeState};
+use charline::driven_flow;
 use fixed_num::rnd;
 
 /// The state of a reservoir at its head (1e-6 m); `flows` receives the flow into it (1e-9 m3/s)
@@ -157,20 +155,10 @@ fn are_flows(flows: &[i64]) -> bool
 #[cfg(test)]
 mod tests {
     use super::*;
-    use crate::characteristics::{arrive_plus, inner_point};
-    use case_model::Point;
 
     // A flow of 0.5 m3/s that stops at 129.834328 s/m2 raises the head by 64.917164 m.
     #[test]
     fn hand_calculations(rt: HostRuntime) {
-        let moving = Point::Good {
-            h: 100_000_000,
-            qu: 500_000_000,
-            qd: 500_000_000,
-            v: 0,
-        };
-        assert_eq!(rt; arrive_plus(129_834_328, &moving), Some(164_917_164));
-        assert_eq!(rt; inner_point(129_834_328, &moving, &moving, &moving), moving);
         for (c, dead_end, head, flow) in [
             (164_917_164, true, 164_917_164, 0),
             (164_917_164, false, 100_000_000, 500_000_000),

@@ -12,10 +12,9 @@ ghost use Rattle.std.specs.Prelude.{
 };
 ghost use Rattle.fixed_num.specs.Rounding.{rnd as rounded};
 ghost use Rattle.case_model.specs.Mesh.{reaches as reaches_of};
+ghost use Rattle.case_model.specs.Parts.{node_at, pipe_at};
 ghost use Rattle.short_law.specs.Laws.{
   IsComputable,
-  node_at,
-  pipe_at,
   start_head as head_of,
   start_node as node_from,
   start_point as point_from,

@@ -1,6 +1,5 @@
-use Rattle.std.proofs.Common.{ℕ, List, Option, Some, None, subst}
-use Rattle.std.specs.List.{range_with_len}
-use Rattle.case_model.specs.Search.{Refusal, first_of}
+use Rattle.std.proofs.Common.{Option, subst}
+use Rattle.case_model.specs.Search.{Refusal}
 use Rattle.case_model.specs.SearchLaws.{FirstOrNone, first_is, first_found, first_none}
 use Rattle.case_model.proofs.refusals.refusals_are_least.Goals as goal
 

@@ -1,5 +1,5 @@
 use Rattle.std.specs.List.{AllWithin}
-use Rattle.short_law.specs.Laws.{IsArrival}
+use Rattle.charline.specs.Characteristics.{IsArrival}
 use Rattle.short_law.proofs.Gathered.{ArrivedTo}
 use Rattle.short_law.proofs.arrivals.gather.Given as goal
 

@@ -1,5 +1,5 @@
 use Rattle.std.proofs.Common.{◌≡◌, take, map}
-use Rattle.short_law.specs.Laws.{flow_in}
+use Rattle.charline.specs.Characteristics.{flow_in}
 use Rattle.short_law.proofs.nodes.write_flows.Given as goal
 
 abbrev pub invariant-loop-i : goal.invariant-loop-i

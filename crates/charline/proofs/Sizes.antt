@@ -1,0 +1,53 @@
+-- The sizes of rounded quotients along a pipe.
+use Rattle.std.proofs.Common.{ℕ, zero, suc, ◌+◌, ◌*◌, ◌/◌, ◌%◌, ◌<◌, ◌≤◌, ◌≡◌, ℤ, pos, ◌*ℤ◌, ◌≤ℤ◌, unsigned_abs, ap, sym, ◌∙◌, w64, FitsSigned, arith}
+use Rattle.std.specs.Int.{w128}
+use Rattle.std.proofs.lemmas.Int.{ints, unsigned_abs-mul, fits_signed_from_abs, fits_signed_mul}
+use Rattle.std.proofs.lemmas.Nat.{mul-le}
+use Rattle.charline.specs.Characteristics.{IsImpedance}
+
+pub fits : (z : ℤ) → unsigned_abs z ≤ 1000000000000000000 → FitsSigned w64 z
+fits z h = fits_signed_from_abs w64 z (omega arith)
+
+pub fits_wide : (z : ℤ) → unsigned_abs z ≤ 100000000000000000000000000000000 → FitsSigned w128 z
+fits_wide z h = fits_signed_from_abs w128 z (omega arith)
+
+size_of_impedance : (b : ℤ) → IsImpedance b → unsigned_abs b ≤ 10000000000000
+size_of_impedance b h = omega (arith, ints)
+
+-- the head of a flow at an impedance
+pub head_below : (b q x : ℤ) → IsImpedance b → unsigned_abs q ≤ 1000000000000 → 2 * unsigned_abs x * 1000000000 ≤ 2 * unsigned_abs (b *ℤ q) + 1000000000 → unsigned_abs x ≤ 10000000000000000
+head_below b q x h k m =
+    let s : unsigned_abs (b *ℤ q) ≤ 10000000000000 * 1000000000000 = rw (unsigned_abs-mul b q) (mul-le (unsigned_abs b) (unsigned_abs q) 10000000000000 1000000000000 (size_of_impedance b h) k) in
+    omega arith
+
+quotient_below : (x b n : ℕ) → 100000 ≤ b → n ≤ 20000000000000000000000 → 2 * x * b ≤ 2 * n + b → x ≤ 200000000000000000
+quotient_below zero b n h k m = omega arith
+quotient_below (suc x) b n h k m =
+    let e : (2 * x + 1) * 100000 ≤ (2 * x + 1) * b = mul-le (2 * x + 1) 100000 (2 * x + 1) b (omega arith) h in omega arith
+
+-- the flow that a difference of heads drives
+pub flow_below : (head b x : ℤ) → unsigned_abs head ≤ 20000000000000 → pos 100000 ≤ℤ b → 2 * unsigned_abs x * unsigned_abs b ≤ 2 * unsigned_abs (head *ℤ pos 1000000000) + unsigned_abs b → unsigned_abs x ≤ 200000000000000000
+flow_below head b x h k m =
+    let s : unsigned_abs (head *ℤ pos 1000000000) ≤ 20000000000000000000000 = rw (unsigned_abs-mul head (pos 1000000000)) (omega arith) in
+    quotient_below (unsigned_abs x) (unsigned_abs b) (unsigned_abs (head *ℤ pos 1000000000)) (omega (arith, ints)) s m
+
+pub fits_product : (b q : ℤ) → IsImpedance b → unsigned_abs q ≤ 1000000000000 → FitsSigned w128 (b *ℤ q)
+fits_product b q h k = fits_signed_mul w128 b q 10000000000000 1000000000000 (size_of_impedance b h) k (omega arith)
+
+-- a product by the millions of a factor and the rest
+distributed : (a b q : ℕ) → a * q * 1000000 + b * q ≡ (a * 1000000 + b) * q
+distributed a b q = omega arith
+
+pub millions_and_rest : (r q : ℕ) → r / 1000000 * q * 1000000 + r % 1000000 * q ≡ r * q
+millions_and_rest r q =
+    let e : r / 1000000 * 1000000 + r % 1000000 ≡ r = omega arith in
+    distributed (r / 1000000) (r % 1000000) q ∙ ap (λ (n : ℕ). n * q) e
+
+-- the volume that a growth gains in a time step
+pub gained_product : (dt growth : ℤ) → pos 1 ≤ℤ dt → dt ≤ℤ pos 1000000 → unsigned_abs growth ≤ 20000000000000000000 → FitsSigned w128 (dt *ℤ growth)
+gained_product dt growth least most h = fits_signed_mul w128 dt growth 1000000 20000000000000000000 (omega (arith, ints)) h (omega arith)
+
+pub gained_below : (dt growth x : ℤ) → pos 1 ≤ℤ dt → dt ≤ℤ pos 1000000 → unsigned_abs growth ≤ 20000000000000000000 → 2 * unsigned_abs x * 10000000 ≤ 2 * unsigned_abs (dt *ℤ growth) + 10000000 → unsigned_abs x ≤ 2000000000000000001
+gained_below dt growth x least most h m =
+    let s : unsigned_abs (dt *ℤ growth) ≤ 1000000 * 20000000000000000000 = rw (unsigned_abs-mul dt growth) (mul-le (unsigned_abs dt) (unsigned_abs growth) 1000000 20000000000000000000 (omega (arith, ints)) h) in
+    omega arith

@@ -1,0 +1,3 @@
+pub mod Cavity
+pub mod Characteristics
+pub mod Interior

@@ -1,0 +1,16 @@
+//! Characteristics along a pipe with friction, the discrete vapour cavity, and the interior law.
+#![tactic(auto)]
+
+mod arrivals;
+mod cavities;
+mod interior;
+mod losses;
+mod quotients;
+
+pub use arrivals::{arrive_minus, arrive_plus};
+pub use cavities::cavity_volume;
+pub use interior::{inner_point, liquid_point};
+pub use quotients::{driven_flow, impedance_head};
+
+#[cfg(test)]
+mod tests;
