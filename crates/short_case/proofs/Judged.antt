@@ -18,6 +18,7 @@ use Rattle.short_case.specs.Sound.{IsSound}
 use Rattle.short_case.specs.Verdict.{text_passes, verdict}
 use Rattle.short_case.proofs.Accepted.{not_true}
 use Rattle.short_case.proofs.Bounded.{refusal_is, refusal_none}
+use Rattle.short_case.proofs.Joined.{few_ends}
 use Rattle.short_case.proofs.Readable.{is_read, are_short}
 
 some_pipe : (es : List Entry) → list_any is_pipe es ≡ true → IsEmpty (pipe_rules es)
@@ -87,6 +88,7 @@ all_pipes case mesh e = rw e (length-map-range_with_len (pipe_mesh case) 0 (leng
 pub small : (case : Case) (mesh : Mesh) → IsAccepted case mesh → IsSmall case mesh
 small case mesh a = record {
   steps = a.read.few_steps;
+  ends = λ k h. few_ends case mesh a k (omega (arith, all_nodes case mesh a.divided));
   nodes = omega (arith, all_nodes case mesh a.divided, a.read.few_nodes);
   pipes = omega (arith, all_pipes case mesh a.divided, a.read.few_pipes);
   places = omega (arith, a.numbered.all, all_places case mesh a.divided, few_places case a.kept.1.0);

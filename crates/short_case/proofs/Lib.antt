@@ -2,6 +2,7 @@ pub mod Accepted
 pub mod Bounded
 pub mod Counted
 pub mod Cutting
+pub mod Joined
 pub mod Judged
 pub mod LinesRead
 pub mod Listed

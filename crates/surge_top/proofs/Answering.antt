@@ -5,7 +5,7 @@ use Rattle.std.proofs.lemmas.Bool.{lt-ltb}
 use Rattle.std.specs.Prelude.{IfSome}
 use Rattle.surge_io.specs.Bytes.{IsReading, HasRead}
 use Rattle.surge_top.specs.Answer.{Answer, answer, answer_to, are_words}
-use Rattle.short_case.specs.ShortMesh.{verdict}
+use Rattle.short_case.specs.Verdict.{verdict}
 use Rattle.surge_top.specs.Texts.{usage_text}
 use Rattle.surge_top.specs.Status.{IsAnswered, number_of}
 use Rattle.surge_top.specs.declared.status.Status.{Status}

@@ -5,8 +5,8 @@ use Rattle.case_model.specs.declared.cases.Case.{Case}
 use Rattle.case_model.specs.declared.meshes.Mesh.{Mesh}
 use Rattle.case_model.specs.Rows.{states, all_points}
 use Rattle.case_model.specs.FirstFault.{first_fault}
-use Rattle.short_case.specs.Sets.{Refusal}
-use Rattle.short_case.specs.ShortMesh.{verdict}
+use Rattle.case_model.specs.Search.{Refusal}
+use Rattle.short_case.specs.Verdict.{verdict}
 use Rattle.short_law.specs.Laws.{meaning_of}
 use Rattle.surge_top.specs.Texts.{usage_text, refusal_text, range_text, heads_text}
 

@@ -9,7 +9,7 @@ use Rattle.case_model.specs.declared.states.NodeState.TheVariants.{Good as GoodS
 use Rattle.case_model.specs.declared.cases.Case.{Case}
 use Rattle.case_model.specs.declared.meshes.Mesh.{Mesh}
 use Rattle.case_model.specs.declared.meshes.PipeMesh.{PipeMesh}
-use Rattle.short_law.specs.Laws.{node_at, pipe_at}
+use Rattle.case_model.specs.Parts.{node_at, pipe_at}
 
 -- a line of fields
 abbrev pub line_of : List (List ℕ) → List ℕ
@@ -32,7 +32,16 @@ usage_text = line_of (codes "usage:" ∷ codes "surge" ∷ codes "rounds" ∷ []
 
 -- what a refusal's number stands for
 abbrev pub refusal_reason : ℕ → List ℕ
-refusal_reason number = if number == 1 then codes "first line" else if number == 7 then codes "name unknown" else codes "not read yet"
+refusal_reason number =
+    if number == 1 then codes "first line"
+    else if number == 7 then codes "name unknown"
+    else if number == 10 then codes "too many or too long"
+    else if number == 11 then codes "ends do not suit"
+    else if number == 12 then codes "reaches"
+    else if number == 13 then codes "wave speed over tolerance"
+    else if number == 15 then codes "coefficient out of limits"
+    else if number == 16 then codes "probe off the mesh"
+    else codes "not read yet"
 
 unfoldable pub refusal_text : ℕ → ℕ → List ℕ
 refusal_text number line = line_of (codes "refused" ∷ count_text number ∷ codes "line" ∷ count_text line ∷ refusal_reason number ∷ [])

@@ -2,8 +2,8 @@ ghost use Rattle.std.specs.Prelude.{◌≡◌, ℕ, List, true, false, Some, Non
 ghost use Rattle.case_model.specs.FirstFault.{first_fault};
 ghost use Rattle.case_model.specs.declared.cases.Case.{Case};
 ghost use Rattle.case_model.specs.declared.meshes.Mesh.{Mesh};
-ghost use Rattle.short_case.specs.Sets.{Refusal};
-ghost use Rattle.short_case.specs.ShortMesh.{verdict};
+ghost use Rattle.case_model.specs.Search.{Refusal};
+ghost use Rattle.short_case.specs.Verdict.{verdict};
 ghost use Rattle.short_law.specs.Laws.{meaning_of};
 ghost use Rattle.surge_top.specs.Answer.{answer, are_words};
 

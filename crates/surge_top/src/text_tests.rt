@@ -65,11 +65,22 @@ fn two_nodes(alloc: Global) -> Result<(Case, Mesh), AllocError> {
 fn usage_and_refusals_are_one_line(rt: HostRuntime) -> Result<(), Fail> {
     let mut out = sink(rt.alloc())?;
     assert_eq!(rt; write_usage(&mut out), Ok(()));
-    assert_eq!(rt; write_refusal(1, 1, &mut out), Ok(()));
-    assert_eq!(rt; write_refusal(7, 6, &mut out), Ok(()));
-    assert_eq!(rt; write_refusal(90, 3, &mut out), Ok(()));
+    let refusals: [(u8, u64); 9] = [
+        (1, 1),
+        (7, 6),
+        (10, 0),
+        (11, 4),
+        (12, 6),
+        (13, 6),
+        (15, 6),
+        (16, 9),
+        (90, 3),
+    ];
+    for (number, line) in refusals {
+        assert_eq!(rt; write_refusal(number, line, &mut out), Ok(()));
+    }
     let want =
-        "usage: surge rounds\nrefused 1 line 1 first line\nrefused 7 line 6 name unknown\nrefused 90 line 3 not read yet\n";
+        "usage: surge rounds\nrefused 1 line 1 first line\nrefused 7 line 6 name unknown\nrefused 10 line 0 too many or too long\nrefused 11 line 4 ends do not suit\nrefused 12 line 6 reaches\nrefused 13 line 6 wave speed over tolerance\nrefused 15 line 6 coefficient out of limits\nrefused 16 line 9 probe off the mesh\nrefused 90 line 3 not read yet\n";
     assert_eq!(rt; out.bytes(), want.as_bytes());
     Ok(())
 }

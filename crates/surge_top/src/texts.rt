@@ -119,14 +119,18 @@ fn add_head(line: &mut Line, head: i64)
 // What a refusal's number stands for.
 fn refusal_reason(number: u8) -> &'static [u8]
     ensures text { result.now ≡ refusal_reason number }
-    ensures few { length result.now ≤ 12 }
+    ensures few { length result.now ≤ 25 }
 {
-    if number == 1 {
-        b"first line"
-    } else if number == 7 {
-        b"name unknown"
-    } else {
-        b"not read yet"
+    match number {
+        1 => b"first line",
+        7 => b"name unknown",
+        10 => b"too many or too long",
+        11 => b"ends do not suit",
+        12 => b"reaches",
+        13 => b"wave speed over tolerance",
+        15 => b"coefficient out of limits",
+        16 => b"probe off the mesh",
+        _ => b"not read yet",
     }
 }
 

@@ -3,9 +3,9 @@ ghost use Rattle.surge_io.specs.Bytes.{Appends, AppendsFront, IsReading, HasRead
 ghost use Rattle.surge_io.specs.Faults.{Rose};
 ghost use Rattle.std.specs.Str.{bytes_eq};
 ghost use Rattle.surge_top.specs.Answer.{answer, answer_to, are_words};
-ghost use Rattle.short_law.specs.Laws.{IsComputable};
+ghost use Rattle.short_case.specs.Accepted.{IsAccepted};
 ghost use Rattle.short_case.specs.Sizes.{IsSmall};
-ghost use Rattle.short_case.specs.ShortMesh.{verdict};
+ghost use Rattle.short_case.specs.Verdict.{verdict};
 ghost use Rattle.surge_top.specs.Status.{number_of, IsAnswered};
 
 use crate::status::Status;
@@ -106,7 +106,7 @@ fn answer_text<K: Sink>(alloc: Global, bytes: &[u8], out: &mut K) -> Status
 
 // Writes the answer to an accepted case.
 fn answer_case<K: Sink>(alloc: Global, case: &Case, mesh: &Mesh, out: &mut K) -> Status
-    requires computable { IsComputable case.now mesh.now }
+    requires accepted { IsAccepted case.now mesh.now }
     requires small { IsSmall case.now mesh.now }
     ensures answer { IsAnswered result → Appends (K.held out.old) (K.held out.new) (answer_to (Ok (case.now, mesh.now))).text × (number_of result ≡ (answer_to (Ok (case.now, mesh.now))).status) }
     ensures front { result ≡ Status.WriteFault → AppendsFront (K.held out.old) (K.held out.new) (answer_to (Ok (case.now, mesh.now))).text }

@@ -21,7 +21,11 @@ fn answers_are_those_worked_out_by_hand(rt: HostRuntime) -> Result<(), Fail> {
     // 129,834.328 m, past the range of 100,000 m. With 100,000 m at A and -100,000 m at B, place 1 has
     // the head 0 at step 0, and the flow into A at step 1 along P is (0 - b*Q - 100,000)/b, that is
     // -1,000 - 770.2 m3/s, past the range of 1,000 m3/s.
-    let rows: [(&[u8], &[u8], Status); 9] = [
+    // A pipe of 230 m in two reaches of 0.1 s has the wave speed 1,150 m/s and b = 149.309477 s/m2, and
+    // 0.5 m3/s stand for 74.654739 m. 149.999 m are 1.49999 reaches; 230.001 m in two need a speed over
+    // 1.15 times 1,000 m/s. Of 20 mm, 2,000 m in a reach and f = 0.5 the friction is over 10^8 s2/m5.
+    // Seven pipes of 65,536 reaches have 458,761 places with the two nodes.
+    let rows: [(&[u8], &[u8], Status); 14] = [
         (STILL, STILL_HEADS, Status::Done),
         (
             b"surge 1\nstep 0.1\nsteps 2\nreservoir A 0 100\njunction B 0 0 100\npipe P A B 200 1 1000 0 0.5\n",
@@ -56,7 +60,32 @@ fn answers_are_those_worked_out_by_hand(rt: HostRuntime) -> Result<(), Fail> {
         ),
         (
             b"surge 1\nstep 0.1\nsteps 2\nreservoir A 0 100\njunction B 0 0 100\npipe P1 A B 200 1 1000 0 0\npipe P2 A B 200 1 1000 0 0\npipe P3 A B 200 1 1000 0 0\npipe P4 A B 200 1 1000 0 0\npipe P5 A B 200 1 1000 0 0\npipe P6 A B 200 1 1000 0 0\npipe P7 A B 200 1 1000 0 0\npipe P8 A B 200 1 1000 0 0\npipe P9 A B 200 1 1000 0 0\n",
-            b"refused 90 line 0 not read yet\n",
+            b"refused 11 line 4 ends do not suit\n",
+            Status::Refused,
+        ),
+        (
+            b"surge 1\nstep 0.1\nsteps 2\nreservoir A 0 100\njunction B 0 0 100\npipe P A B 230 1 1000 0 0.5\n",
+            b"last A 100.000000\nlast B 174.654739\nlast P 0 100.000000\nlast P 1 174.654739\nlast P 2 174.654739\n",
+            Status::Done,
+        ),
+        (
+            b"surge 1\nstep 0.1\nsteps 2\nreservoir A 0 100\njunction B 0 0 100\npipe P A B 149.999 1 1000 0 0.5\n",
+            b"refused 12 line 6 reaches\n",
+            Status::Refused,
+        ),
+        (
+            b"surge 1\nstep 0.1\nsteps 2\nreservoir A 0 100\njunction B 0 0 100\npipe P A B 230.001 1 1000 0 0.5\n",
+            b"refused 13 line 6 wave speed over tolerance\n",
+            Status::Refused,
+        ),
+        (
+            b"surge 1\nstep 1\nsteps 2\nreservoir A 0 100\njunction B 0 0 100\npipe P A B 4000 0.02 2000 0.5 0\n",
+            b"refused 15 line 6 coefficient out of limits\n",
+            Status::Refused,
+        ),
+        (
+            b"surge 1\nstep 0.000001\nsteps 2\nreservoir A 0 100\njunction B 0 0 100\npipe P1 A B 65.536 1 1000 0 0\npipe P2 A B 65.536 1 1000 0 0\npipe P3 A B 65.536 1 1000 0 0\npipe P4 A B 65.536 1 1000 0 0\npipe P5 A B 65.536 1 1000 0 0\npipe P6 A B 65.536 1 1000 0 0\npipe P7 A B 65.536 1 1000 0 0\n",
+            b"refused 10 line 0 too many or too long\n",
             Status::Refused,
         ),
     ];

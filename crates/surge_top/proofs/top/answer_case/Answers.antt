@@ -4,6 +4,7 @@ use Rattle.case_model.specs.Rows.{states, all_points}
 use Rattle.case_model.specs.RowLaws.{length-states, length-all_points}
 use Rattle.short_law.specs.Laws.{meaning_of}
 use Rattle.surge_top.proofs.Answering.{mesh_fits}
+use Rattle.surge_top.proofs.Fitting.{nodes_fit, pipes_fit}
 use Rattle.surge_top.proofs.top.answer_case.Goals as goal
 
 pub compute-requires-clause-mesh : goal.compute-requires-clause-mesh
@@ -15,11 +16,17 @@ write_heads-requires-clause-nodes g c =
     let h = rw c.in-Ok-Heads.field-0-is at c.in-Ok-Heads.ensures in
     let law = meaning_of c.args.case.now c.args.mesh.now in
     let s : c.deref.result.now ≡ states law c.args.case.now.steps = cc (h.1, c.deref.ensures.value, c.over-law.ensures) in
-    ap length s ∙ length-states law c.args.case.now.steps ∙ ap (λ m. length m.ends) (mesh_fits c.args.case.now c.args.mesh.now) ∙ c.requires.computable.nodes
+    ap length s ∙ length-states law c.args.case.now.steps ∙ ap (λ m. length m.ends) (mesh_fits c.args.case.now c.args.mesh.now) ∙ nodes_fit c.args.case.now c.args.mesh.now c.requires.accepted
 
 pub write_heads-requires-clause-pipes : goal.write_heads-requires-clause-pipes
 write_heads-requires-clause-pipes g c =
     let h = rw c.in-Ok-Heads.field-0-is at c.in-Ok-Heads.ensures in
     let law = meaning_of c.args.case.now c.args.mesh.now in
     let s : c.deref-in-Ok-Heads.result.now ≡ all_points law c.args.case.now.steps = cc (h.2, c.deref-in-Ok-Heads.ensures.value, c.over-law.ensures) in
-    ap length s ∙ length-all_points law c.args.case.now.steps ∙ ap (λ m. length m.pipes) (mesh_fits c.args.case.now c.args.mesh.now) ∙ c.requires.computable.pipes
+    ap length s ∙ length-all_points law c.args.case.now.steps ∙ ap (λ m. length m.pipes) (mesh_fits c.args.case.now c.args.mesh.now) ∙ pipes_fit c.args.case.now c.args.mesh.now c.requires.accepted
+
+pub compute-requires-clause-ends : goal.compute-requires-clause-ends
+compute-requires-clause-ends g c = λ lifetimes k h. c.requires.small.ends k h
+
+pub write_range-requires : goal.write_range-requires
+write_range-requires g c = pipes_fit c.args.case.now c.args.mesh.now c.requires.accepted

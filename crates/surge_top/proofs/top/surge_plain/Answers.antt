@@ -2,7 +2,7 @@ use Rattle.std.proofs.Common.{◌≡◌, map, rules, ◌⊎◌}
 use Rattle.surge_io.specs.Bytes.{Appends, AppendsFront}
 use Rattle.surge_io.specs.Faults.{Rose}
 use Rattle.surge_top.specs.Answer.{answer_to}
-use Rattle.short_case.specs.ShortMesh.{verdict}
+use Rattle.short_case.specs.Verdict.{verdict}
 use Rattle.surge_top.specs.Status.{number_of, IsAnswered}
 use Rattle.surge_top.specs.declared.status.Status.TheVariants.{WriteFault, Memory}
 use Rattle.surge_top.proofs.Answering.{for_words, for_taken, complete_from, read_of}
