@@ -11,6 +11,8 @@ pub use status::Status;
 pub use top::surge_plain;
 
 #[cfg(test)]
+mod steady_tests;
+#[cfg(test)]
 mod text_tests;
 #[cfg(test)]
 mod top_tests;

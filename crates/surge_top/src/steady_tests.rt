@@ -1,0 +1,37 @@
+//! A pipe with friction that is run until its flow is steady.
+use case_model::Point;
+use row_steps::{Outcome, compute};
+use short_case::read_case;
+use short_law::ShortLaw;
+
+// The flow upstream of a point, or none where it is Bad.
+fn flow(point: &Point) -> i64 {
+    match point {
+        Point::Good { qu, .. } => *qu,
+        Point::Bad => 0,
+    }
+}
+
+// By Darcy-Weisbach 10 m of head drive Q through 1,000 m of 0.5 m with f = 0.02, where
+// 10 = f L / (2 g D A^2) Q^2 = 0.02 * 1000 / (2 * 9.80665 * 0.5 * 0.19635^2) Q^2 = 52.899 Q^2:
+// Q = 0.43478 m3/s. After 300 s the flow is steady, and the same at every place.
+#[test]
+fn flow_settles_at_that_of_darcy_and_weisbach(rt: HostRuntime) {
+    let text =
+        b"surge 1\nstep 0.1\nsteps 3000\nreservoir A 0 100\nreservoir B 0 90\npipe P A B 1000 0.5 1000 0.02 0\n";
+    let accepted = read_case(rt.alloc(), text);
+    let Ok((case, mesh)) = accepted else {
+        panic!(rt; "the case was not accepted");
+    };
+    let law = ShortLaw::over(&case, &mesh);
+    let Ok(Outcome::Heads(row)) = compute(rt.alloc(), &law, &mesh, case.steps) else {
+        panic!(rt; "the case was not computed");
+    };
+    for points in &row.points {
+        for point in points.as_slice() {
+            let q = flow(point);
+            assert!(rt; q >= 434_700_000);
+            assert!(rt; q <= 434_860_000);
+        }
+    }
+}
