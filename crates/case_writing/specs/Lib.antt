@@ -1,0 +1,2 @@
+pub mod CaseText
+pub mod Named

@@ -1,0 +1,4 @@
+pub mod LineFacts
+pub mod Numbers
+pub mod ValuesUnder
+pub mod Limits

@@ -1,0 +1,12 @@
+use Rattle.std.proofs.Common.{◌∙◌, ap, codes}
+use Rattle.std.specs.Prelude.{option_and_then}
+use Rattle.clap.specs.Words.{found_of}
+use Rattle.clap.proofs.WalkLemmas.{first_value-rows}
+use Rattle.command_words.specs.CommandLine.{command_of}
+use Rattle.command_words.proofs.reading.command_among.Goals as goal
+
+pub returns-in-Some : goal.returns-in-Some
+returns-in-Some c = c.command_of.ensures ∙ ap (option_and_then command_of) (c.in-Some.ensures ∙ first_value-rows (found_of c.args.matches.now) (codes "command"))
+
+pub returns-in-None : goal.returns-in-None
+returns-in-None c = ap (option_and_then command_of) (c.in-None.ensures ∙ first_value-rows (found_of c.args.matches.now) (codes "command"))
