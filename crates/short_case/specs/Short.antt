@@ -88,7 +88,8 @@ dt_of es = dt_said (entry_at es 1)
 abbrev pub is_node_in_place : List Entry → List ℕ → Bool
 is_node_in_place before name = nat_le 3 (length before) && not (list_any is_pipe before) && not (list_any (is_named name) before)
 
--- the same of a pipe, between two nodes
+-- whether the name is new after these lines, the nodes of the pipe differ, and there are lines for the
+-- heading, the time step, the steps and a node
 abbrev pub is_pipe_in_place : List Entry → List ℕ → List ℕ → List ℕ → Bool
 is_pipe_in_place before name first last =
     nat_le 4 (length before) && not (list_any (is_named name) before) && not (bytes_eq first last)

@@ -14,10 +14,10 @@ use crate::parts::{cut, split};
 use std::alloc::{AllocError, Global};
 use thiserror::Error;
 
-/// Why lines aren't read.
+/// Why a short case isn't read.
 #[derive(Clone, Copy, Debug, PartialEq, Eq, Error)]
 pub enum LineFault {
-    /// A line breaks a rule.
+    /// The first broken rule by its number, and its line, or 0 for a rule of the whole text or mesh.
     #[error("refused {number} line {line}")]
     Refused { number: u8, line: u64 },
     /// Want of memory.
