@@ -1,0 +1,3 @@
+pub mod Quotients
+pub mod MoreArrivals
+pub mod States

@@ -1,0 +1,16 @@
+//! Nodes with one head: reservoirs and junctions, with the discrete vapour cavity at a junction, and
+//! the sums over the ends of a node.
+//!
+//! After Wylie and Streeter, Fluid Transients in Systems: boundary conditions, column separation.
+#![tactic(auto)]
+
+mod laws;
+mod levels;
+mod sums;
+
+pub use laws::{junction, liquid_junction, reservoir};
+pub use levels::{bad_state, filled, state_at, state_with_flows};
+pub use sums::{weighted_sums, write_inflows};
+
+#[cfg(test)]
+mod tests;

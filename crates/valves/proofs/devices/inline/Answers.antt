@@ -1,0 +1,22 @@
+use Rattle.std.proofs.Common.{arith, to_z-of_z, FitsSigned, w64, ◌+ℤ◌}
+use Rattle.std.proofs.lemmas.Int.{ints}
+use Rattle.valves.specs.Devices.{inline_through}
+use Rattle.valves.proofs.Quotients.{fits}
+use Rattle.valves.proofs.devices.inline.Goals as goal
+
+pub valve_flow-flow-requires-clause-valve_in : goal.valve_flow-flow-requires-clause-valve_in
+valve_flow-flow-requires-clause-valve_in c =
+    let one = c.requires.one_in.impedance in
+    let two = c.requires.two_in.impedance in
+    let f : FitsSigned w64 (c.args.one.now.b +ℤ c.args.two.now.b) = fits (c.args.one.now.b +ℤ c.args.two.now.b) (omega (arith, ints)) in
+    let g : FitsSigned w64 c.args.one.now.b = fits c.args.one.now.b (omega (arith, ints)) in
+    let h : FitsSigned w64 c.args.two.now.b = fits c.args.two.now.b (omega (arith, ints)) in
+    simp to_z-of_z c.requires.valve_in
+
+pub returns : goal.returns
+unfolding inline_through
+returns c =
+    let one = c.requires.one_in.impedance in
+    let two = c.requires.two_in.impedance in
+    let f : FitsSigned w64 (c.args.one.now.b +ℤ c.args.two.now.b) = fits (c.args.one.now.b +ℤ c.args.two.now.b) (omega (arith, ints)) in
+    grind (arith, to_z-of_z, c.through.ensures, c.valve_flow-flow.ensures.value)

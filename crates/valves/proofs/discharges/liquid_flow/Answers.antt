@@ -1,0 +1,6 @@
+use Rattle.std.proofs.Common.{arith, to_z-of_z}
+use Rattle.valves.proofs.discharges.liquid_flow.Goals as goal
+
+pub returns-clause-value : goal.returns-clause-value
+returns-clause-value c =
+    grind (arith, to_z-of_z, c.valve_flow.ensures.value)

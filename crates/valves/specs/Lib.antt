@@ -1,0 +1,4 @@
+pub mod Devices
+pub mod Discharges
+pub mod Orifices
+pub mod Roots
