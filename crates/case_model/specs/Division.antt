@@ -1,5 +1,5 @@
 -- The mesh of a case: its pipes in reaches, the ends at each node, and the numbers of places.
-use Rattle.std.specs.Prelude.{◌≡◌, ◌<◌, ℕ, ◌+◌, ◌*◌, ◌==◌, ◌&&◌, not, nat_le, Bool, ℤ, pos, ◌*ℤ◌, ◌-ℤ◌, ◌+ℤ◌, unsigned_abs, int_le, List, [], slice_index_or, length, map, take, sum_by}
+use Rattle.std.specs.Prelude.{◌≡◌, ◌<◌, ℕ, ◌+◌, ◌==◌, ◌&&◌, not, nat_le, Bool, ℤ, pos, ◌*ℤ◌, ◌-ℤ◌, ◌+ℤ◌, unsigned_abs, int_le, List, [], slice_index_or, length, map, take, sum_by}
 use Rattle.std.specs.List.{range_with_len}
 use Rattle.case_model.specs.declared.cases.Case.{Case}
 use Rattle.case_model.specs.declared.cases.Pipe.{Pipe}

@@ -1,15 +1,9 @@
 -- Courant division of a pipe: its reaches, impedance, friction and elevations, in whole numbers with
 -- one rounding rule. After Wylie and Streeter, Fluid Transients in Systems: method of
 -- characteristics for complex systems, wave speed adjustment.
-use Rattle.std.specs.Prelude.{ℕ, ℤ, pos, ◌+ℤ◌, ◌-ℤ◌, ◌*ℤ◌, unsigned_abs, int_le, if◌then◌else◌, slice_index_or}
+use Rattle.std.specs.Prelude.{ℕ, ℤ, pos, ◌+ℤ◌, ◌-ℤ◌, ◌*ℤ◌, unsigned_abs, int_le, if◌then◌else◌}
 use Rattle.fixed_num.specs.Rounding.{rnd}
-use Rattle.case_model.specs.declared.cases.Case.{Case}
-use Rattle.case_model.specs.declared.cases.Node.{Node}
-use Rattle.case_model.specs.declared.cases.NodeKind.TheVariants.{Junction}
-use Rattle.case_model.specs.declared.cases.Value.TheVariants.{Fixed}
 use Rattle.case_model.specs.declared.cases.Pipe.{Pipe}
-use Rattle.case_model.specs.declared.meshes.Mesh.{Mesh}
-use Rattle.case_model.specs.Mesh.{reaches}
 
 -- the area in 1e-6 m2 of a diameter in 1e-3 m, with 355/452 for pi/4
 unfoldable pub area : ℤ → ℤ

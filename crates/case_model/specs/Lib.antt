@@ -18,6 +18,8 @@ pub mod Refusals
 pub mod RowLaws
 pub mod Rows
 pub mod Samples
+pub mod Search
+pub mod SearchLaws
 pub mod Sets
 pub mod WordLaws
 pub mod Words

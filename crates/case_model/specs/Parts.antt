@@ -1,5 +1,5 @@
 -- The parts of a case by their index.
-use Rattle.std.specs.Prelude.{ℕ, ℤ, pos, [], slice_index_or}
+use Rattle.std.specs.Prelude.{ℕ, pos, [], slice_index_or}
 use Rattle.case_model.specs.declared.cases.Case.{Case}
 use Rattle.case_model.specs.declared.cases.Table.{Table}
 use Rattle.case_model.specs.declared.cases.TableKind.TheVariants.{Heads}

@@ -1,7 +1,7 @@
 -- What the division of a case refuses: 11 ends that do not suit, 12 reaches, 13 wave speed over the
 -- tolerance, 15 a coefficient out of its limits, 16 a probe off the mesh, and then 10 too many places
 -- or samples. The rules are sets over all nodes, pipes and probes at once.
-use Rattle.std.specs.Prelude.{ℕ, ◌+◌, ◌-◌, ◌*◌, ◌/◌, ◌==◌, ◌&&◌, ◌||◌, not, nat_lt, nat_le, Bool, true, false, ℤ, pos, ◌+ℤ◌, ◌*ℤ◌, int_le, if◌then◌else◌, List, [], ◌∷◌, length, slice_index_or}
+use Rattle.std.specs.Prelude.{ℕ, ◌+◌, ◌-◌, ◌*◌, ◌/◌, ◌==◌, ◌&&◌, ◌||◌, not, nat_lt, nat_le, Bool, false, ℤ, pos, ◌+ℤ◌, ◌*ℤ◌, int_le, if◌then◌else◌, List, [], ◌∷◌, length}
 use Rattle.case_model.specs.declared.cases.Case.{Case}
 use Rattle.case_model.specs.declared.cases.Node.{Node}
 use Rattle.case_model.specs.declared.cases.NodeKind.{NodeKind}

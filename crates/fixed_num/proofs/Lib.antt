@@ -1,5 +1,6 @@
 pub mod Nearest
 pub mod Digits
 pub mod Put
+pub mod Between
 pub mod Texts
 pub mod Back

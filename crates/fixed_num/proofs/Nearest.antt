@@ -6,11 +6,11 @@ use Rattle.fixed_num.specs.Rounding.{half_up, rnd, IsNearest}
 quotient_only : (n m q : ℕ) → 0 < m → q * m ≤ n → n < suc q * m → n / m ≡ q
 quotient_only n m q p low high = omega (arith, le-div q n m p low, div_below n m (suc q) p high)
 
-half_up-parts : (n d : ℕ) → 0 < d → (2 * (half_up n d * d) ≤ 2 * n + d) × (2 * n < 2 * (half_up n d * d) + d)
+pub half_up-parts : (n d : ℕ) → 0 < d → (2 * (half_up n d * d) ≤ 2 * n + d) × (2 * n < 2 * (half_up n d * d) + d)
 half_up-parts n d p = omega arith
 
 -- a multiple of the divisor that is near the number is that of the rounded quotient
-half_up-only : (n k d : ℕ) → 0 < d → 2 * (k * d) ≤ 2 * n + d → 2 * n < 2 * (k * d) + d → k ≡ half_up n d
+pub half_up-only : (n k d : ℕ) → 0 < d → 2 * (k * d) ≤ 2 * n + d → 2 * n < 2 * (k * d) + d → k ≡ half_up n d
 half_up-only n k d p low high = sym (quotient_only (2 * n + d) (2 * d) k (omega arith) (omega arith) (omega arith))
 
 -- the distance of a number from a multiple of the divisor, by the signs of both

@@ -1,3 +1,4 @@
 pub mod Rounding
+pub mod Tables
 pub mod Decimal
 pub mod Written

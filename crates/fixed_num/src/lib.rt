@@ -4,10 +4,12 @@
 
 mod decimal;
 mod rounding;
+mod tables;
 mod written;
 
 pub use decimal::{NumberFault, read_decimal};
 pub use rounding::rnd;
+pub use tables::{interp, root};
 pub use written::write_decimal;
 
 #[cfg(test)]

@@ -1,4 +1,4 @@
-use super::{NumberFault, read_decimal, rnd, write_decimal};
+use super::{NumberFault, interp, read_decimal, rnd, root, write_decimal};
 
 // By hand: 2.5, -2.5, 2, a third, -0.5, and what the two paths give on both sides of 2^64.
 #[test]
@@ -16,6 +16,18 @@ fn rounds_half_away_from_zero(rt: HostRuntime) {
         rnd(-55_340_232_221_128_654_850, 20),
         -2_767_011_611_056_432_743
     );
+}
+
+// By hand: 3 * 3 = 9 <= 15 < 16 = 4 * 4; a third of 10 is 3.3, two thirds 6.7.
+#[test]
+fn roots_and_tables(rt: HostRuntime) {
+    assert_eq!(rt; root(15), 3);
+    assert_eq!(rt; root(16), 4);
+    let table = [(0, 0), (3, 10)];
+    assert_eq!(rt; interp(&table, -5), 0);
+    assert_eq!(rt; interp(&table, 1), 3);
+    assert_eq!(rt; interp(&table, 2), 7);
+    assert_eq!(rt; interp(&table, 9), 10);
 }
 
 #[test]

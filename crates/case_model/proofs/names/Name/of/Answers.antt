@@ -1,5 +1,5 @@
-use Rattle.std.proofs.Common.{◌≡◌, ◌++◌, drop, replicate, length}
-use Rattle.case_model.specs.Padding.{IsPadded, padded_new}
+use Rattle.std.proofs.Common.{◌≡◌}
+use Rattle.case_model.specs.Padding.{padded_new}
 use Rattle.case_model.proofs.names.Name.of.Goals as goal
 
 pub invariant_of-result : goal.invariant_of-result
