@@ -1,0 +1,4 @@
+pub mod FirstPart
+pub mod LinesCut
+pub mod Ranges
+pub mod Rules

@@ -1,0 +1,131 @@
+-- What the fields of a line must be, by the word with which it begins.
+use Rattle.std.specs.Prelude.{ℕ, ◌+◌, ◌-◌, ◌*◌, ◌%◌, ◌==◌, ◌&&◌, ◌||◌, nat_lt, nat_le, Bool, false, if◌then◌else◌, List, [], ◌∷◌, length, slice_index_or, codes}
+use Rattle.std.specs.List.{list_all}
+use Rattle.std.specs.Char.{is_ascii_alphanumeric}
+use Rattle.std.specs.Str.{bytes_eq}
+use Rattle.case_model.specs.declared.cases.TableKind.{TableKind}
+use Rattle.case_model.specs.declared.cases.TableKind.TheVariants.{Heads, Flows, Openings, Speeds, Curve, Gas}
+use Rattle.case_model.specs.Limits.{least_entries, most_entries}
+use Rattle.case_lines.specs.declared.words.Single.{Single}
+use Rattle.case_lines.specs.declared.words.Single.TheVariants.{Step, Steps, Vapour, Weight, Tolerance, Every}
+use Rattle.case_lines.specs.declared.words.NodeWord.{NodeWord}
+use Rattle.case_lines.specs.declared.words.NodeWord.TheVariants.{Reservoir, Junction, Discharge, Inline, Pump, Tank, Vessel}
+use Rattle.case_lines.specs.declared.words.Directive.{Directive}
+use Rattle.case_lines.specs.declared.words.Directive.TheVariants.{OfSingle, OfTable, OfNode, OfPipe, OfProbe, OfWatch}
+use Rattle.case_lines.specs.declared.quantities.Quantity.{Quantity}
+use Rattle.case_lines.specs.declared.quantities.Quantity.TheVariants.{TimeStep, StepCount, VapourHead, GrowthWeight, SpeedTolerance, SampleStep, Time, Head, Flow, Opening, SpeedRatio, CurveFlow, CurveRise, Volume, Elevation, ValveFlow, ValveLoss, Area, Length, Diameter, WaveSpeed, Friction, PipePlace}
+use Rattle.case_lines.specs.declared.fields.FieldKind.{FieldKind}
+use Rattle.case_lines.specs.declared.fields.FieldKind.TheVariants.{NewName, NodeName, PipeName, Reference, Number, Value}
+
+-- a field by its place, counted from 0; an empty one where there is none
+abbrev pub field : List (List ℕ) → ℕ → List ℕ
+field fields k = slice_index_or fields k []
+
+-- the two fields of the first line
+abbrev pub is_heading : List (List ℕ) → Bool
+is_heading fields = (length fields == 2) && bytes_eq (field fields 0) (codes "surge") && bytes_eq (field fields 1) (codes "1")
+
+abbrev pub is_name_byte : ℕ → Bool
+is_name_byte b = is_ascii_alphanumeric b || (b == 95) || (b == 45) || (b == 46)
+
+-- letters, digits, low lines, hyphens and points, of whatever length
+abbrev pub is_name : List ℕ → Bool
+is_name text = nat_lt 0 (length text) && list_all is_name_byte text
+
+-- whether a field begins with the mark of a reference
+abbrev pub is_marked : List ℕ → Bool
+is_marked text = slice_index_or text 0 0 == 64
+
+-- what stands behind that mark
+abbrev pub referred : List ℕ → List ℕ
+referred [] = []
+referred (mark ∷ name) = name
+
+-- a reference: the mark and a name
+abbrev pub is_reference : List ℕ → Bool
+is_reference text = is_marked text && is_name (referred text)
+
+-- what a single directive gives
+abbrev pub single_quantity : Single → Quantity
+single_quantity Step = TimeStep
+single_quantity Steps = StepCount
+single_quantity Vapour = VapourHead
+single_quantity Weight = GrowthWeight
+single_quantity Tolerance = SpeedTolerance
+single_quantity Every = SampleStep
+
+-- what the first and the second numbers of the pairs of a table are
+abbrev pub first_quantity : TableKind → Quantity
+first_quantity Heads = Time
+first_quantity Flows = Time
+first_quantity Openings = Time
+first_quantity Speeds = Time
+first_quantity Curve = CurveFlow
+first_quantity Gas = Volume
+
+abbrev pub second_quantity : TableKind → Quantity
+second_quantity Heads = Head
+second_quantity Flows = Flow
+second_quantity Openings = Opening
+second_quantity Speeds = SpeedRatio
+second_quantity Curve = CurveRise
+second_quantity Gas = Head
+
+-- the fields behind the name and the elevation of a node
+abbrev pub node_fields : NodeWord → List FieldKind
+node_fields Reservoir = Value Head Heads ∷ []
+node_fields Junction = Value Flow Flows ∷ Number Head ∷ []
+node_fields Discharge = Number ValveFlow ∷ Number ValveLoss ∷ Number Head ∷ Value Opening Openings ∷ Number Head ∷ []
+node_fields Inline = Number ValveFlow ∷ Number ValveLoss ∷ Value Opening Openings ∷ Number Head ∷ Number Head ∷ []
+node_fields Pump = Reference Curve ∷ Value SpeedRatio Speeds ∷ Number Head ∷ Number Head ∷ []
+node_fields Tank = Number Area ∷ Number Head ∷ []
+node_fields Vessel = Reference Gas ∷ Number Volume ∷ []
+
+-- name, first node, last node, length, diameter, wave speed, friction and start flow of a pipe
+abbrev pub pipe_fields : List FieldKind
+pipe_fields = NewName ∷ NodeName ∷ NodeName ∷ Number Length ∷ Number Diameter ∷ Number WaveSpeed ∷ Number Friction ∷ Number Flow ∷ []
+
+-- pipe and place of a probe
+abbrev pub probe_fields : List FieldKind
+probe_fields = PipeName ∷ Number PipePlace ∷ []
+
+-- what the field at place k must be: of a table the name and then numbers in turn
+abbrev pub table_field : TableKind → ℕ → FieldKind
+table_field kind k =
+    if k == 1 then NewName
+    else if k % 2 == 0 then Number (first_quantity kind)
+    else Number (second_quantity kind)
+
+abbrev pub node_field : NodeWord → ℕ → FieldKind
+node_field node k =
+    if k == 1 then NewName
+    else if k == 2 then Number Elevation
+    else slice_index_or (node_fields node) (k - 3) NewName
+
+-- what the field at place k of a line must be, counted from the word at place 0
+unfoldable pub field_kind : Directive → ℕ → FieldKind
+field_kind (OfSingle single) k = Number (single_quantity single)
+field_kind (OfTable kind) k = table_field kind k
+field_kind (OfNode node) k = node_field node k
+field_kind OfPipe k = slice_index_or pipe_fields (k - 1) NewName
+field_kind OfProbe k = slice_index_or probe_fields (k - 1) NewName
+field_kind OfWatch k = NodeName
+
+-- whether a line has so many fields as its directive asks for; of a table a name and whole pairs,
+-- and not too few of them
+unfoldable pub has_count : Directive → ℕ → Bool
+has_count (OfSingle single) n = n == 2
+has_count (OfTable kind) n = (n % 2 == 0) && nat_le (2 * least_entries kind + 2) n
+has_count (OfNode node) n = n == length (node_fields node) + 3
+has_count OfPipe n = n == 9
+has_count OfProbe n = n == 3
+has_count OfWatch n = n == 2
+
+-- whether a line has too many pairs
+unfoldable pub has_too_many : Directive → ℕ → Bool
+has_too_many (OfSingle single) n = false
+has_too_many (OfTable kind) n = nat_lt (2 * most_entries kind + 2) n
+has_too_many (OfNode node) n = false
+has_too_many OfPipe n = false
+has_too_many OfProbe n = false
+has_too_many OfWatch n = false

@@ -1,0 +1,26 @@
+//! Lines of the case text: their fields, what each field must be, and the rules that a line breaks
+//! by itself.
+#![tactic(auto)]
+
+mod amounts;
+mod counts;
+mod cutting;
+mod fields;
+mod judging;
+mod order;
+mod quantities;
+mod spelling;
+mod words;
+
+pub use amounts::{amount, quantity_in};
+pub use counts::{has_count, has_too_many};
+pub use cutting::{cut_line, fields_of};
+pub use fields::{FieldKind, field_kind, first_quantity, second_quantity, single_quantity};
+pub use judging::judge_line;
+pub use order::{is_ordered, pair_at};
+pub use quantities::{NumberLimits, Quantity, limits};
+pub use spelling::{field, is_marked, referred};
+pub use words::{Directive, NodeWord, Single, directive_of};
+
+#[cfg(test)]
+mod tests;
