@@ -7,3 +7,6 @@ mod nodes;
 mod writing;
 
 pub use writing::write_case;
+
+#[cfg(test)]
+mod tests;

@@ -72,7 +72,7 @@ fn add_tables<K: Sink>(tables: &[Table], page: &mut Page, out: &mut K) -> Result
 }
 
 // Adds the line of a table, which may be long.
-fn add_table<K: Sink>(table: &Table, page: &mut Page, out: &mut K) -> Result<(), Failed>
+pub(crate) fn add_table<K: Sink>(table: &Table, page: &mut Page, out: &mut K) -> Result<(), Failed>
     ensures all { OnOk result (Adds (K.held out.old) page.old (K.held out.new) page.new (table_text table.now)) }
     ensures front { OnErr result (AddsFront (K.held out.old) page.old (K.held out.new) (table_text table.now)) }
     ensures cause { OnErr result (Rose (K.faults out.old) (K.faults out.new)) }
