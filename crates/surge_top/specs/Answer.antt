@@ -1,32 +1,73 @@
 -- The answer: what the program prints for its words and its input, and the number of its status.
-use Rattle.std.specs.Prelude.{ℕ, ◌==◌, ◌&&◌, Bool, Option, Some, None, Result, Ok, Err, if◌then◌else◌, List, length, slice_index_or, [], codes}
-use Rattle.std.specs.Str.{bytes_eq}
+use Rattle.std.specs.Prelude.{ℕ, Bool, true, false, Option, Some, None, Result, Ok, Err, if◌then◌else◌, List}
 use Rattle.case_model.specs.declared.cases.Case.{Case}
 use Rattle.case_model.specs.declared.meshes.Mesh.{Mesh}
 use Rattle.case_model.specs.Rows.{states, all_points}
 use Rattle.case_model.specs.FirstFault.{first_fault}
 use Rattle.case_model.specs.Search.{Refusal}
-use Rattle.short_case.specs.Verdict.{verdict}
+use Rattle.command_words.specs.declared.job.Command.{Command}
+use Rattle.command_words.specs.declared.job.Command.TheVariants.{Check, Mesh as MeshCommand, Rounds, Run, Drill}
+use Rattle.command_words.specs.declared.job.Job.{Job}
+use Rattle.command_words.specs.CommandLine.{job_of}
+use Rattle.netfile.specs.Verdict.{verdict}
 use Rattle.short_law.specs.Laws.{meaning_of}
-use Rattle.surge_top.specs.Texts.{usage_text, refusal_text, range_text, heads_text}
+use Rattle.surge_top.specs.Computed.{line_not_computed}
+use Rattle.surge_top.specs.Texts.{usage_text, accepted_text, refusal_text, range_text, heads_text}
 
 pub record Answer : Type 0 where
   pub text : List ℕ
   pub status : ℕ
 
--- the program's name, whatever it is, and `rounds`
-abbrev pub are_words : List (List ℕ) → Bool
-are_words words = (length words == 2) && bytes_eq (slice_index_or words 1 []) (codes "rounds")
+-- the answer to words that are refused, and to those of a command that is not built yet
+abbrev pub usage : Answer
+usage = record { text = usage_text; status = 2 }
+
+abbrev pub refused : ℕ → ℕ → Answer
+refused number line = record { text = refusal_text number line; status = 1 }
 
 -- of an accepted case: the first fault up to the last step, or else the heads at that step
 abbrev pub computed : Case → Mesh → Option (ℕ × ℕ) → Answer
 computed case mesh (Some fault) = record { text = range_text case mesh fault.0 fault.1; status = 3 }
 computed case mesh None = record { text = heads_text case (states (meaning_of case mesh) case.steps) (all_points (meaning_of case mesh) case.steps); status = 0 }
 
-abbrev pub answer_to : Result (Case × Mesh) Refusal → Answer
-answer_to (Ok accepted) = computed accepted.0 accepted.1 (first_fault (meaning_of accepted.0 accepted.1) accepted.0.steps)
-answer_to (Err refusal) = record { text = refusal_text refusal.number refusal.line; status = 1 }
+-- a case is computed where all its nodes can be, else the line of the first that cannot is refused
+abbrev pub computed_if : Case → Mesh → Option ℕ → Answer
+computed_if case mesh (Some line) = refused 90 line
+computed_if case mesh None = computed case mesh (first_fault (meaning_of case mesh) case.steps)
+
+-- what a command answers to an accepted case
+abbrev pub answer_case : Command → Case → Mesh → Answer
+answer_case Check case mesh = record { text = accepted_text; status = 0 }
+answer_case Rounds case mesh = computed_if case mesh (line_not_computed case.nodes)
+answer_case MeshCommand case mesh = usage
+answer_case Run case mesh = usage
+answer_case Drill case mesh = usage
+
+-- what it answers to a text that means this
+abbrev pub answer_to : Command → Result (Case × Mesh) Refusal → Answer
+answer_to command (Ok accepted) = answer_case command accepted.0 accepted.1
+answer_to command (Err refusal) = refused refusal.number refusal.line
+
+-- whether a command reads a case text; the others are not built yet
+abbrev pub reads : Command → Bool
+reads Check = true
+reads Rounds = true
+reads MeshCommand = false
+reads Run = false
+reads Drill = false
+
+-- whether words, by the job that they name, have the input read
+abbrev pub job_reads : Option Job → Bool
+job_reads (Some job) = reads job.command
+job_reads None = false
+
+abbrev pub are_read : List (List ℕ) → Bool
+are_read words = job_reads (job_of words)
+
+abbrev pub answer_job : Option Job → List ℕ → Answer
+answer_job (Some job) bytes = if reads job.command then answer_to job.command (verdict bytes) else usage
+answer_job None bytes = usage
 
 -- the answer to these words and this input
 unfoldable pub answer : List (List ℕ) → List ℕ → Answer
-answer words bytes = if are_words words then answer_to (verdict bytes) else record { text = usage_text; status = 2 }
+answer words bytes = answer_job (job_of words) bytes

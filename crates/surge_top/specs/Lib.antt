@@ -1,3 +1,5 @@
 pub mod Answer
+pub mod Computed
+pub mod Sizes
 pub mod Status
 pub mod Texts

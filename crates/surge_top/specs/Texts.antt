@@ -28,17 +28,29 @@ head_text h = written 6 h
 
 -- the line for words that aren't those of a command
 unfoldable pub usage_text : List ℕ
-usage_text = line_of (codes "usage:" ∷ codes "surge" ∷ codes "rounds" ∷ [])
+usage_text = line_of (codes "usage:" ∷ codes "surge" ∷ codes "check|mesh|rounds|run|drill" ∷ codes "[number]" ∷ codes "[--workers n]" ∷ codes "[--slots n]" ∷ codes "[--window n]" ∷ [])
+
+-- the line for a case text that is accepted
+unfoldable pub accepted_text : List ℕ
+accepted_text = line_of (codes "accepted" ∷ [])
 
 -- what a refusal's number stands for
 abbrev pub refusal_reason : ℕ → List ℕ
 refusal_reason number =
     if number == 1 then codes "first line"
+    else if number == 2 then codes "unknown word"
+    else if number == 3 then codes "count of fields"
+    else if number == 4 then codes "spelling"
+    else if number == 5 then codes "number out of limits"
+    else if number == 6 then codes "name repeated"
     else if number == 7 then codes "name unknown"
+    else if number == 8 then codes "directive missing"
+    else if number == 9 then codes "directive repeated"
     else if number == 10 then codes "too many or too long"
     else if number == 11 then codes "ends do not suit"
     else if number == 12 then codes "reaches"
     else if number == 13 then codes "wave speed over tolerance"
+    else if number == 14 then codes "table order"
     else if number == 15 then codes "coefficient out of limits"
     else if number == 16 then codes "probe off the mesh"
     else codes "not read yet"

@@ -2,6 +2,7 @@
 #![tactic(auto)]
 
 mod causes;
+mod computing;
 mod status;
 mod texts;
 mod top;

@@ -1,7 +1,7 @@
 //! A pipe with friction that is run until its flow is steady.
 use case_model::Point;
+use netfile::read_case;
 use row_steps::{Outcome, compute};
-use short_case::read_case;
 use short_law::ShortLaw;
 
 // The flow upstream of a point, or none where it is Bad.

@@ -1,5 +1,5 @@
 //! Each printed text through a sink over memory.
-use super::texts::{write_heads, write_range, write_refusal, write_usage};
+use super::texts::{write_accepted, write_heads, write_range, write_refusal, write_usage};
 use case_model::{Case, List, Mesh, Name, Node, NodeKind, NodeState, Pipe, PipeMesh, Point, Value};
 use std::alloc::{AllocError, Global};
 use std::test::Fail;
@@ -65,22 +65,31 @@ fn two_nodes(alloc: Global) -> Result<(Case, Mesh), AllocError> {
 fn usage_and_refusals_are_one_line(rt: HostRuntime) -> Result<(), Fail> {
     let mut out = sink(rt.alloc())?;
     assert_eq!(rt; write_usage(&mut out), Ok(()));
-    let refusals: [(u8, u64); 9] = [
-        (1, 1),
-        (7, 6),
-        (10, 0),
-        (11, 4),
-        (12, 6),
-        (13, 6),
-        (15, 6),
-        (16, 9),
-        (90, 3),
+    let refusals: [(u8, u64); 17] = [
+        (1, 4),
+        (2, 5),
+        (3, 6),
+        (4, 7),
+        (5, 8),
+        (6, 9),
+        (7, 10),
+        (8, 11),
+        (9, 12),
+        (10, 13),
+        (11, 14),
+        (12, 15),
+        (13, 16),
+        (14, 17),
+        (15, 18),
+        (16, 19),
+        (90, 93),
     ];
     for (number, line) in refusals {
         assert_eq!(rt; write_refusal(number, line, &mut out), Ok(()));
     }
+    assert_eq!(rt; write_accepted(&mut out), Ok(()));
     let want =
-        "usage: surge rounds\nrefused 1 line 1 first line\nrefused 7 line 6 name unknown\nrefused 10 line 0 too many or too long\nrefused 11 line 4 ends do not suit\nrefused 12 line 6 reaches\nrefused 13 line 6 wave speed over tolerance\nrefused 15 line 6 coefficient out of limits\nrefused 16 line 9 probe off the mesh\nrefused 90 line 3 not read yet\n";
+        "usage: surge check|mesh|rounds|run|drill [number] [--workers n] [--slots n] [--window n]\nrefused 1 line 4 first line\nrefused 2 line 5 unknown word\nrefused 3 line 6 count of fields\nrefused 4 line 7 spelling\nrefused 5 line 8 number out of limits\nrefused 6 line 9 name repeated\nrefused 7 line 10 name unknown\nrefused 8 line 11 directive missing\nrefused 9 line 12 directive repeated\nrefused 10 line 13 too many or too long\nrefused 11 line 14 ends do not suit\nrefused 12 line 15 reaches\nrefused 13 line 16 wave speed over tolerance\nrefused 14 line 17 table order\nrefused 15 line 18 coefficient out of limits\nrefused 16 line 19 probe off the mesh\nrefused 90 line 93 not read yet\naccepted\n";
     assert_eq!(rt; out.bytes(), want.as_bytes());
     Ok(())
 }

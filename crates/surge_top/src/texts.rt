@@ -5,7 +5,7 @@ ghost use Rattle.fixed_num.specs.Written.{written};
 ghost use Rattle.surge_io.specs.Bytes.{Appends, AppendsFront};
 ghost use Rattle.surge_io.specs.Faults.{Rose};
 ghost use Rattle.surge_io.specs.Pages.{Adds, AddsFront};
-ghost use Rattle.surge_top.specs.Texts.{usage_text, refusal_reason, refusal_text, count_text, head_text, spaced, label_of, label_in, range_text, head_of_state, head_of_point, node_line, place_line, pipe_lines, node_lines, places_lines, heads_text};
+ghost use Rattle.surge_top.specs.Texts.{usage_text, accepted_text, refusal_reason, refusal_text, count_text, head_text, spaced, label_of, label_in, range_text, head_of_state, head_of_point, node_line, place_line, pipe_lines, node_lines, places_lines, heads_text};
 
 use case_model::{Case, List, Mesh, NodeState, PipeMesh, Point};
 use fixed_num::write_decimal;
@@ -20,7 +20,22 @@ pub(crate) fn write_usage<K: Sink>(out: &mut K) -> Result<(), Failed>
     ensures cause { OnErr result (Rose (K.faults out.old) (K.faults out.new)) }
     ensures later { K.faults out.old ≤ K.faults out.new }
 {
-    put(out, b"usage: surge rounds\n")
+    put(
+        out,
+        b"usage: surge check|mesh|rounds|run|drill [number] [--workers n] [--slots n] [--window n]\n",
+    )
+}
+
+/// Writes the line for a case text that is accepted.
+/// `Failed` comes only where the sink's count of faults rose in this call, and then a first part was written.
+#[tactic(auto, unfolding(crate::specs::Texts::accepted_text))]
+pub(crate) fn write_accepted<K: Sink>(out: &mut K) -> Result<(), Failed>
+    ensures all { OnOk result (Appends (K.held out.old) (K.held out.new) accepted_text) }
+    ensures front { OnErr result (AppendsFront (K.held out.old) (K.held out.new) accepted_text) }
+    ensures cause { OnErr result (Rose (K.faults out.old) (K.faults out.new)) }
+    ensures later { K.faults out.old ≤ K.faults out.new }
+{
+    put(out, b"accepted\n")
 }
 
 /// Writes the line of a refusal, by its number and the line of the case text that it stands on, or 0.
@@ -123,11 +138,19 @@ fn refusal_reason(number: u8) -> &'static [u8]
 {
     match number {
         1 => b"first line",
+        2 => b"unknown word",
+        3 => b"count of fields",
+        4 => b"spelling",
+        5 => b"number out of limits",
+        6 => b"name repeated",
         7 => b"name unknown",
+        8 => b"directive missing",
+        9 => b"directive repeated",
         10 => b"too many or too long",
         11 => b"ends do not suit",
         12 => b"reaches",
         13 => b"wave speed over tolerance",
+        14 => b"table order",
         15 => b"coefficient out of limits",
         16 => b"probe off the mesh",
         _ => b"not read yet",

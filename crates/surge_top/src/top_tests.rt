@@ -10,22 +10,23 @@ const STILL: &[u8] =
 const STILL_HEADS: &[u8] =
     b"last A 100.000000\nlast B 100.000000\nlast P 0 100.000000\nlast P 1 100.000000\nlast P 2 100.000000\n";
 
+const USAGE: &[u8] =
+    b"usage: surge check|mesh|rounds|run|drill [number] [--workers n] [--slots n] [--window n]\n";
+
 // A source of these bytes in pieces of 8, of which these calls fail.
 fn source(alloc: Global, text: &[u8], failing: &[u64]) -> Result<MemorySource, AllocError> {
     Ok(MemorySource::over(text.to_vec(alloc)?, 8, failing.to_vec(alloc)?))
 }
 
 #[test]
-fn answers_are_those_worked_out_by_hand(rt: HostRuntime) -> Result<(), Fail> {
+fn heads_are_those_worked_out_by_hand(rt: HostRuntime) -> Result<(), Fail> {
     // A stop of 0.5 m3/s raises the head by b*Q = 129.834328 * 0.5 = 64.917164 m; one of 1,000 m3/s by
     // 129,834.328 m, past the range of 100,000 m. With 100,000 m at A and -100,000 m at B, place 1 has
     // the head 0 at step 0, and the flow into A at step 1 along P is (0 - b*Q - 100,000)/b, that is
-    // -1,000 - 770.2 m3/s, past the range of 1,000 m3/s.
-    // A pipe of 230 m in two reaches of 0.1 s has the wave speed 1,150 m/s and b = 149.309477 s/m2, and
-    // 0.5 m3/s stand for 74.654739 m. 149.999 m are 1.49999 reaches; 230.001 m in two need a speed over
-    // 1.15 times 1,000 m/s. Of 20 mm, 2,000 m in a reach and f = 0.5 the friction is over 10^8 s2/m5.
-    // Seven pipes of 65,536 reaches have 458,761 places with the two nodes.
-    let rows: [(&[u8], &[u8], Status); 14] = [
+    // -1,000 - 770.2 m3/s, past the range of 1,000 m3/s. A pipe of 230 m in two reaches of 0.1 s has the
+    // wave speed 1,150 m/s and b = 149.309477 s/m2, and 0.5 m3/s stand for 74.654739 m.
+    // A demand of -0.000 is none; the first node that is not computed yet is on line 5.
+    let rows: [(&[u8], &[u8], Status); 7] = [
         (STILL, STILL_HEADS, Status::Done),
         (
             b"surge 1\nstep 0.1\nsteps 2\nreservoir A 0 100\njunction B 0 0 100\npipe P A B 200 1 1000 0 0.5\n",
@@ -43,56 +44,103 @@ fn answers_are_those_worked_out_by_hand(rt: HostRuntime) -> Result<(), Fail> {
             Status::Range,
         ),
         (
-            b"surge 1\nstep 0.1\nsteps  2\nreservoir A 0 100\nreservoir B 0 100\npipe P A B 200 1 1000 0 0\n",
-            b"refused 90 line 3 not read yet\n",
-            Status::Refused,
-        ),
-        (
-            b"surge 1\nstep 0.1\nsteps 2\nreservoir A 0 100\npipe P A B 200 1 1000 0 0\n",
-            b"refused 7 line 5 name unknown\n",
-            Status::Refused,
-        ),
-        (b"", b"refused 1 line 1 first line\n", Status::Refused),
-        (
-            b"surge 1\n",
-            b"refused 90 line 0 not read yet\n",
-            Status::Refused,
-        ),
-        (
-            b"surge 1\nstep 0.1\nsteps 2\nreservoir A 0 100\njunction B 0 0 100\npipe P1 A B 200 1 1000 0 0\npipe P2 A B 200 1 1000 0 0\npipe P3 A B 200 1 1000 0 0\npipe P4 A B 200 1 1000 0 0\npipe P5 A B 200 1 1000 0 0\npipe P6 A B 200 1 1000 0 0\npipe P7 A B 200 1 1000 0 0\npipe P8 A B 200 1 1000 0 0\npipe P9 A B 200 1 1000 0 0\n",
-            b"refused 11 line 4 ends do not suit\n",
-            Status::Refused,
-        ),
-        (
-            b"surge 1\nstep 0.1\nsteps 2\nreservoir A 0 100\njunction B 0 0 100\npipe P A B 230 1 1000 0 0.5\n",
+            b"surge 1\nstep 0.1\nsteps  2\nreservoir A 0 100\njunction B 0 0 100\npipe P A B 230 1 1000 0 0.5\n",
             b"last A 100.000000\nlast B 174.654739\nlast P 0 100.000000\nlast P 1 174.654739\nlast P 2 174.654739\n",
             Status::Done,
+        ),
+        (
+            b"surge 1\nstep 0.1\nsteps 2\njunction B 0 -0.000 100\njunction C 0 0.5 100\ndischarge A 0 1 1 0 1 100\npipe P A B 200 1 1000 0 0\npipe Q B C 200 1 1000 0 0\n",
+            b"refused 90 line 5 not read yet\n",
+            Status::Refused,
         ),
         (
             b"surge 1\nstep 0.1\nsteps 2\nreservoir A 0 100\njunction B 0 0 100\npipe P A B 149.999 1 1000 0 0.5\n",
             b"refused 12 line 6 reaches\n",
             Status::Refused,
         ),
+    ];
+    for (text, want, status) in rows {
+        let mut source = source(rt.alloc(), text, &[])?;
+        let mut sink = MemorySink::make(rt.alloc(), 1_000, Vec::new(rt.alloc()))?;
+        let words = ["surge", "rounds"];
+        let ended = surge_plain(&rt, words.as_slice(), &mut source, &mut sink);
+        assert_eq!(rt; ended, status);
+        assert_eq!(rt; sink.bytes(), want);
+    }
+    Ok(())
+}
+
+#[test]
+fn cases_are_accepted_or_refused(rt: HostRuntime) -> Result<(), Fail> {
+    // 149.999 m are 1.49999 reaches of 100 m; 230.001 m in two need a speed over 1.15 times 1,000 m/s.
+    let rows: [(&[u8], &[u8], Status); 14] = [
+        (STILL, b"accepted\n", Status::Done),
         (
-            b"surge 1\nstep 0.1\nsteps 2\nreservoir A 0 100\njunction B 0 0 100\npipe P A B 230.001 1 1000 0 0.5\n",
+            b"surge 1\nstep 0.1\nsteps 2\nreservoir A 0 100\nreservoir B 0 100\npipe P A B 230 1 1000 0 0\n",
+            b"accepted\n",
+            Status::Done,
+        ),
+        (
+            b"surge 1\nstep 0.1\nsteps 2\nreservoir A 0 100\nreservoir B 0 100\npipe P A B 230.001 1 1000 0 0\n",
             b"refused 13 line 6 wave speed over tolerance\n",
             Status::Refused,
         ),
         (
-            b"surge 1\nstep 1\nsteps 2\nreservoir A 0 100\njunction B 0 0 100\npipe P A B 4000 0.02 2000 0.5 0\n",
-            b"refused 15 line 6 coefficient out of limits\n",
+            b"surge 1\nstep 0.1\nsteps 2\nreservoir A 0 100\nreservoir B 0 100\npipe P A B 149.999 1 1000 0 0\n",
+            b"refused 12 line 6 reaches\n",
             Status::Refused,
         ),
         (
-            b"surge 1\nstep 0.000001\nsteps 2\nreservoir A 0 100\njunction B 0 0 100\npipe P1 A B 65.536 1 1000 0 0\npipe P2 A B 65.536 1 1000 0 0\npipe P3 A B 65.536 1 1000 0 0\npipe P4 A B 65.536 1 1000 0 0\npipe P5 A B 65.536 1 1000 0 0\npipe P6 A B 65.536 1 1000 0 0\npipe P7 A B 65.536 1 1000 0 0\n",
-            b"refused 10 line 0 too many or too long\n",
+            b"surge 1\nstep 0.1\nsteps 2\nreservoir A 0 100\nreservoir B 0 100\npipe P A B 200 1 1000 0 0\nprobe P 2\n",
+            b"accepted\n",
+            Status::Done,
+        ),
+        (
+            b"surge 1\nstep 0.1\nsteps 2\nreservoir A 0 100\nreservoir B 0 100\npipe P A B 200 1 1000 0 0\nprobe P 3\n",
+            b"refused 16 line 7 probe off the mesh\n",
+            Status::Refused,
+        ),
+        (
+            b"surge 1\nstep 0.1\nsteps 2\nreservoir A 0 100\nreservoir B 0 100\npipe P A B 200 1 1000 0 0\nprobe P 1\nstep 0.1\n",
+            b"refused 9 line 8 directive repeated\n",
+            Status::Refused,
+        ),
+        (
+            b"surge 1\nstep 0.1\nsteps 2\nreservoir A 0 100\nreservoir B 0 100\npipe P A B 200 1 1000 0 0\nprobe P 1\npipe P A B 200 11 1000 0 0\n",
+            b"refused 5 line 8 number out of limits\n",
+            Status::Refused,
+        ),
+        (
+            b"surge 1\nstep 0.1\nsteps 2\nreservoir A 0 100\nreservoir B 0 100\npipe P A B 200 1 1000 0 0\nprobe P 1\npipe P B A 200 1 1000 0 0\n",
+            b"refused 6 line 8 name repeated\n",
+            Status::Refused,
+        ),
+        (
+            b"surge 1\nstep 0.1\nsteps 2\nreservoir A 0 100\nreservoir B 0 100\npipe P A B 200 1 1000 0 0\nprobe X 1\n",
+            b"refused 7 line 7 name unknown\n",
+            Status::Refused,
+        ),
+        (
+            b"surge 1\nstep 0.01\nsteps 20000\nevery 1000\ncurve C 0 60 0.2 50 0.4 30\nspeeds S 0 1 2 1 6 0\ngas G 0.1 500 1 60 2 40 4 25 20 5\nreservoir LOW 0 10\npump PU 0 @C @S 10 60\nvessel VE 0 @G 1\nreservoir HIGH 0 47\npipe P1 LOW PU 20 0.4 1000 0.02 0.2\npipe P2 PU VE 20 0.4 1000 0.02 0.2\npipe P3 VE HIGH 2000 0.4 1000 0.02 0.2\nprobe P3 0\nwatch VE\n",
+            b"accepted\n",
+            Status::Done,
+        ),
+        (
+            b"# a comment\n",
+            b"refused 1 line 1 first line\n",
+            Status::Refused,
+        ),
+        (b"", b"refused 1 line 1 first line\n", Status::Refused),
+        (
+            b"surge 1\n",
+            b"refused 8 line 0 directive missing\n",
             Status::Refused,
         ),
     ];
-    let words = ["surge", "rounds"];
     for (text, want, status) in rows {
         let mut source = source(rt.alloc(), text, &[])?;
         let mut sink = MemorySink::make(rt.alloc(), 1_000, Vec::new(rt.alloc()))?;
+        let words = ["surge", "check"];
         let ended = surge_plain(&rt, words.as_slice(), &mut source, &mut sink);
         assert_eq!(rt; ended, status);
         assert_eq!(rt; sink.bytes(), want);
@@ -102,21 +150,44 @@ fn answers_are_those_worked_out_by_hand(rt: HostRuntime) -> Result<(), Fail> {
 
 #[test]
 fn a_text_over_the_limit_is_refused(rt: HostRuntime) -> Result<(), Fail> {
-    let text = vec![in rt.alloc(); b'#'; 65_537]?;
-    let mut source = MemorySource::over(text, 100_000, Vec::new(rt.alloc()));
+    let text = vec![in rt.alloc(); b'#'; 8_388_609]?;
+    let mut source = MemorySource::over(text, 10_000_000, Vec::new(rt.alloc()));
     let mut sink = MemorySink::make(rt.alloc(), 1_000, Vec::new(rt.alloc()))?;
-    let ended = surge_plain(&rt, ["surge", "rounds"].as_slice(), &mut source, &mut sink);
+    let ended = surge_plain(&rt, ["surge", "check"].as_slice(), &mut source, &mut sink);
     assert_eq!(rt; ended, Status::Refused);
     assert_eq!(rt;
         sink.bytes(),
-        b"refused 90 line 0 not read yet\n".as_slice()
+        b"refused 10 line 0 too many or too long\n".as_slice()
     );
+    Ok(())
+}
+
+// The first read of the source is to fail, so these words don't read.
+#[test]
+fn faulty_words_leave_the_source_unread(rt: HostRuntime) -> Result<(), Fail> {
+    let rows: [&[&str]; 8] = [
+        &["surge", "run", "--workers", "0"],
+        &["surge", "drill"],
+        &["surge", "run", "5"],
+        &["surge", "--help"],
+        &["surge"],
+        &["surge", "mesh"],
+        &["surge", "run", "--slots", "2"],
+        &["surge", "drill", "7"],
+    ];
+    for words in rows {
+        let mut source = source(rt.alloc(), STILL, &[1])?;
+        let mut sink = MemorySink::make(rt.alloc(), 1_000, Vec::new(rt.alloc()))?;
+        let ended = surge_plain(&rt, words, &mut source, &mut sink);
+        assert_eq!(rt; ended, Status::Words);
+        assert_eq!(rt; sink.bytes(), USAGE);
+    }
     Ok(())
 }
 
 #[test]
 fn faults_of_the_outside(rt: HostRuntime) -> Result<(), Fail> {
-    let good: &[&str] = &["any name", "rounds"];
+    let good: &[&str] = &["any name", "rounds", "--window", "3"];
     let bad: &[&str] = &["surge", "rounds", "rounds"];
     // words, failing reads, room, failing writes, what the sink holds, status
     let rows: [(&[&str], &[u64], usize, &[u64], &[u8], Status); 5] = [
@@ -130,14 +201,7 @@ fn faults_of_the_outside(rt: HostRuntime) -> Result<(), Fail> {
             Status::WriteFault,
         ),
         (good, &[2], 1_000, &[], b"", Status::ReadFault),
-        (
-            bad,
-            &[1],
-            1_000,
-            &[],
-            b"usage: surge rounds\n",
-            Status::Words,
-        ),
+        (bad, &[1], 1_000, &[], USAGE, Status::Words),
         (bad, &[1], 1_000, &[1], b"", Status::WriteFault),
     ];
     for (words, failing_reads, room, failing_writes, want, status) in rows {

@@ -1,19 +1,27 @@
-use Rattle.std.proofs.Common.{refl}
-use Rattle.surge_top.specs.Answer.{answer}
+use Rattle.std.proofs.Common.{refl, ap, sym}
+use Rattle.command_words.specs.CommandLine.{job_of}
+use Rattle.surge_top.specs.Answer.{Answer, answer}
+use Rattle.surge_top.proofs.Answering.{answer_unread, answer_of_refused}
 use Rattle.surge_top.proofs.causes.statuses_have_their_causes.Goals as goal
 
 pub returns-clause-words : goal.returns-clause-words
-unfolding answer
-returns-clause-words c = λ words bytes w. rw w refl
+returns-clause-words c = λ words bytes w. ap (λ (a : Answer). a.status) (sym (answer_unread words bytes (job_of words) refl w))
 
 pub returns-clause-refused : goal.returns-clause-refused
+returns-clause-refused c = λ words bytes r w v. answer_of_refused words bytes r (job_of words) refl w v
+
+pub returns-clause-checked : goal.returns-clause-checked
 unfolding answer
-returns-clause-refused c = λ words bytes r w v. rw (w, v) refl
+returns-clause-checked c = λ words bytes job case mesh w k v. rw (w, k, v) refl
+
+pub returns-clause-not_computed : goal.returns-clause-not_computed
+unfolding answer
+returns-clause-not_computed c = λ words bytes job case mesh line w k v n. rw (w, k, v, n) refl
 
 pub returns-clause-range : goal.returns-clause-range
 unfolding answer
-returns-clause-range c = λ words bytes case mesh fault w v f. rw (w, v, f) refl
+returns-clause-range c = λ words bytes job case mesh fault w k v n f. rw (w, k, v, n, f) refl
 
 pub returns-clause-done : goal.returns-clause-done
 unfolding answer
-returns-clause-done c = λ words bytes case mesh w v f. rw (w, v, f) refl
+returns-clause-done c = λ words bytes job case mesh w k v n f. rw (w, k, v, n, f) refl

@@ -1,52 +1,71 @@
-use Rattle.std.proofs.Common.{◌≡◌, map, rules, ◌⊎◌}
+use Rattle.std.proofs.Common.{◌≡◌, ◌⊎◌, map, rules, false}
 use Rattle.surge_io.specs.Bytes.{Appends, AppendsFront}
 use Rattle.surge_io.specs.Faults.{Rose}
-use Rattle.surge_top.specs.Answer.{answer_to}
-use Rattle.short_case.specs.Verdict.{verdict}
+use Rattle.surge_top.specs.Answer.{are_read}
 use Rattle.surge_top.specs.Status.{number_of, IsAnswered}
 use Rattle.surge_top.specs.declared.status.Status.TheVariants.{WriteFault, Memory}
-use Rattle.surge_top.proofs.Answering.{for_words, for_taken, complete_from, read_of}
+use Rattle.surge_top.proofs.Answering.{for_usage, for_job, read_words, unread_words}
 use Rattle.surge_top.proofs.top.surge_plain.Goals as goal
-
-pub returns-then-not-are_words-clause-answer : goal.returns-then-not-are_words-clause-answer
-returns-then-not-are_words-clause-answer g c =
-    for_words (g.S.Source.left c.args.src.now) (map (λ w. w.now) c.args.words.now)
-    (λ a. IsAnswered c.ended.result → Appends (g.K.Sink.held c.args.out.now) (g.K.Sink.held c.write_usage.new.out) a.text × (number_of c.ended.result ≡ a.status))
-    (search rules) (search rules)
-
-pub returns-then-not-are_words-clause-front : goal.returns-then-not-are_words-clause-front
-returns-then-not-are_words-clause-front g c =
-    for_words (g.S.Source.left c.args.src.now) (map (λ w. w.now) c.args.words.now)
-    (λ a. c.ended.result ≡ WriteFault → AppendsFront (g.K.Sink.held c.args.out.now) (g.K.Sink.held c.write_usage.new.out) a.text)
-    (search rules) (search rules)
-
-pub returns-then-not-are_words-clause-complete : goal.returns-then-not-are_words-clause-complete
-returns-then-not-are_words-clause-complete g c =
-    for_words (g.S.Source.left c.args.src.now) (map (λ w. w.now) c.args.words.now)
-    (λ a. (Rose (g.S.Source.faults c.args.src.now) (g.S.Source.faults c.args.src.now) ⊎ Rose (g.K.Sink.faults c.args.out.now) (g.K.Sink.faults c.write_usage.new.out))
-    ⊎ ((c.ended.result ≡ Memory) ⊎ (number_of c.ended.result ≡ a.status)))
-    (search rules) (search rules)
 
 pub returns-in-Ok-clause-answer : goal.returns-in-Ok-clause-answer
 returns-in-Ok-clause-answer g c =
-    for_taken (g.S.Source.left c.args.src.now) (map (λ w. w.now) c.args.words.now) c.in-Ok.bytes.items
-    (λ a. IsAnswered c.answer_text.result → Appends (g.K.Sink.held c.args.out.now) (g.K.Sink.held c.answer_text.new.out) a.text × (number_of c.answer_text.result ≡ a.status))
-    (search rules) c.in-Ok.ensures.bytes (rw (← c.deref.ensures.value) c.answer_text.ensures.answer)
+    for_job (g.S.Source.left c.args.src.now) (map (λ w. w.now) c.args.words.now) c.in-Ok.job
+    (λ a. IsAnswered c.answer_input.result → Appends (g.K.Sink.held c.args.out.now) (g.K.Sink.held c.answer_input.new.out) a.text × (number_of c.answer_input.result ≡ a.status))
+    c.in-Ok.ensures.exact (search rules) c.answer_input.ensures.answer
 
 pub returns-in-Ok-clause-front : goal.returns-in-Ok-clause-front
 returns-in-Ok-clause-front g c =
-    for_taken (g.S.Source.left c.args.src.now) (map (λ w. w.now) c.args.words.now) c.in-Ok.bytes.items
-    (λ a. c.answer_text.result ≡ WriteFault → AppendsFront (g.K.Sink.held c.args.out.now) (g.K.Sink.held c.answer_text.new.out) a.text)
-    (search rules) c.in-Ok.ensures.bytes (rw (← c.deref.ensures.value) c.answer_text.ensures.front)
+    for_job (g.S.Source.left c.args.src.now) (map (λ w. w.now) c.args.words.now) c.in-Ok.job
+    (λ a. c.answer_input.result ≡ WriteFault → AppendsFront (g.K.Sink.held c.args.out.now) (g.K.Sink.held c.answer_input.new.out) a.text)
+    c.in-Ok.ensures.exact (search rules) c.answer_input.ensures.front
 
 pub returns-in-Ok-clause-complete : goal.returns-in-Ok-clause-complete
 returns-in-Ok-clause-complete g c =
-    for_taken (g.S.Source.left c.args.src.now) (map (λ w. w.now) c.args.words.now) c.in-Ok.bytes.items
-    (λ a. (Rose (g.S.Source.faults c.args.src.now) (g.S.Source.faults c.whole.new.src) ⊎ Rose (g.K.Sink.faults c.args.out.now) (g.K.Sink.faults c.answer_text.new.out))
-    ⊎ ((c.answer_text.result ≡ Memory) ⊎ (number_of c.answer_text.result ≡ a.status)))
-    (search rules) c.in-Ok.ensures.bytes
-    (complete_from {X = Appends (g.K.Sink.held c.args.out.now) (g.K.Sink.held c.answer_text.new.out) (answer_to (verdict c.in-Ok.bytes.items)).text} c.answer_text.result (answer_to (verdict c.in-Ok.bytes.items)).status c.answer_text.ensures.read (rw (← c.deref.ensures.value) c.answer_text.ensures.answer) c.answer_text.ensures.cause)
+    for_job (g.S.Source.left c.args.src.now) (map (λ w. w.now) c.args.words.now) c.in-Ok.job
+    (λ a. (Rose (g.S.Source.faults c.args.src.now) (g.S.Source.faults c.answer_input.new.src) ⊎ Rose (g.K.Sink.faults c.args.out.now) (g.K.Sink.faults c.answer_input.new.out))
+    ⊎ ((c.answer_input.result ≡ Memory) ⊎ (number_of c.answer_input.result ≡ a.status)))
+    c.in-Ok.ensures.exact (search rules) c.answer_input.ensures.complete
 
-pub returns-in-Ok-clause-read : goal.returns-in-Ok-clause-read
-returns-in-Ok-clause-read g c =
-    λ accepted unfailed kept. read_of (g.S.Source.left c.args.src.now) (g.S.Source.left c.whole.new.src) c.in-Ok.bytes.items c.in-Ok.ensures.bytes c.in-Ok.ensures.rest
+pub returns-in-Ok-2-clause-answer : goal.returns-in-Ok-2-clause-answer
+returns-in-Ok-2-clause-answer g c =
+    let unread : are_read (map (λ w. w.now) c.args.words.now) ≡ false = cc (read_words (map (λ w. w.now) c.args.words.now) c.in-Ok.job c.in-Ok.ensures.exact, c.reads_input.ensures, c.if-reads_input.false) in
+    for_usage (g.S.Source.left c.args.src.now) (map (λ w. w.now) c.args.words.now)
+    (λ a. IsAnswered c.ended.result → Appends (g.K.Sink.held c.args.out.now) (g.K.Sink.held c.write_usage.new.out) a.text × (number_of c.ended.result ≡ a.status))
+    unread (search rules)
+
+pub returns-in-Ok-2-clause-front : goal.returns-in-Ok-2-clause-front
+returns-in-Ok-2-clause-front g c =
+    let unread : are_read (map (λ w. w.now) c.args.words.now) ≡ false = cc (read_words (map (λ w. w.now) c.args.words.now) c.in-Ok.job c.in-Ok.ensures.exact, c.reads_input.ensures, c.if-reads_input.false) in
+    for_usage (g.S.Source.left c.args.src.now) (map (λ w. w.now) c.args.words.now)
+    (λ a. c.ended.result ≡ WriteFault → AppendsFront (g.K.Sink.held c.args.out.now) (g.K.Sink.held c.write_usage.new.out) a.text)
+    unread (search rules)
+
+pub returns-in-Ok-2-clause-complete : goal.returns-in-Ok-2-clause-complete
+returns-in-Ok-2-clause-complete g c =
+    let unread : are_read (map (λ w. w.now) c.args.words.now) ≡ false = cc (read_words (map (λ w. w.now) c.args.words.now) c.in-Ok.job c.in-Ok.ensures.exact, c.reads_input.ensures, c.if-reads_input.false) in
+    for_usage (g.S.Source.left c.args.src.now) (map (λ w. w.now) c.args.words.now)
+    (λ a. (Rose (g.S.Source.faults c.args.src.now) (g.S.Source.faults c.args.src.now) ⊎ Rose (g.K.Sink.faults c.args.out.now) (g.K.Sink.faults c.write_usage.new.out))
+    ⊎ ((c.ended.result ≡ Memory) ⊎ (number_of c.ended.result ≡ a.status)))
+    unread (search rules)
+
+pub returns-in-Err-Words-clause-answer : goal.returns-in-Err-Words-clause-answer
+returns-in-Err-Words-clause-answer g c =
+    let unread : are_read (map (λ w. w.now) c.args.words.now) ≡ false = unread_words (map (λ w. w.now) c.args.words.now) (search rules) in
+    for_usage (g.S.Source.left c.args.src.now) (map (λ w. w.now) c.args.words.now)
+    (λ a. IsAnswered c.ended-in-Err-Words.result → Appends (g.K.Sink.held c.args.out.now) (g.K.Sink.held c.write_usage-in-Err-Words.new.out) a.text × (number_of c.ended-in-Err-Words.result ≡ a.status))
+    unread (search rules)
+
+pub returns-in-Err-Words-clause-front : goal.returns-in-Err-Words-clause-front
+returns-in-Err-Words-clause-front g c =
+    let unread : are_read (map (λ w. w.now) c.args.words.now) ≡ false = unread_words (map (λ w. w.now) c.args.words.now) (search rules) in
+    for_usage (g.S.Source.left c.args.src.now) (map (λ w. w.now) c.args.words.now)
+    (λ a. c.ended-in-Err-Words.result ≡ WriteFault → AppendsFront (g.K.Sink.held c.args.out.now) (g.K.Sink.held c.write_usage-in-Err-Words.new.out) a.text)
+    unread (search rules)
+
+pub returns-in-Err-Words-clause-complete : goal.returns-in-Err-Words-clause-complete
+returns-in-Err-Words-clause-complete g c =
+    let unread : are_read (map (λ w. w.now) c.args.words.now) ≡ false = unread_words (map (λ w. w.now) c.args.words.now) (search rules) in
+    for_usage (g.S.Source.left c.args.src.now) (map (λ w. w.now) c.args.words.now)
+    (λ a. (Rose (g.S.Source.faults c.args.src.now) (g.S.Source.faults c.args.src.now) ⊎ Rose (g.K.Sink.faults c.args.out.now) (g.K.Sink.faults c.write_usage-in-Err-Words.new.out))
+    ⊎ ((c.ended-in-Err-Words.result ≡ Memory) ⊎ (number_of c.ended-in-Err-Words.result ≡ a.status)))
+    unread (search rules)

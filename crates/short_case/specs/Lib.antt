@@ -1,9 +1,0 @@
-pub mod Accepted
-pub mod Entries
-pub mod Named
-pub mod Reading
-pub mod Right
-pub mod Short
-pub mod Sizes
-pub mod Sound
-pub mod Verdict
