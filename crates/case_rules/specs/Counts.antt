@@ -1,0 +1,61 @@
+-- The second pass: 8 directive missing, 10 too many parts, both on line 0.
+use Rattle.std.specs.Prelude.{ℕ, ◌==◌, ◌&&◌, ◌||◌, not, nat_lt, Bool, true, false, Option, Some, None, List, codes, count_by}
+use Rattle.std.specs.List.{list_any}
+use Rattle.case_model.specs.Sets.{Rules}
+use Rattle.case_lines.specs.declared.words.Directive.{Directive}
+use Rattle.case_lines.specs.declared.words.Directive.TheVariants.{OfSingle, OfTable, OfNode, OfPipe, OfProbe, OfWatch}
+use Rattle.case_rules.specs.Said.{said, is_single_of}
+
+-- whether a directive is a table, a node, a pipe, or a probe or watch
+abbrev pub is_table : Option Directive → Bool
+is_table None = false
+is_table (Some (OfSingle single)) = false
+is_table (Some (OfTable kind)) = true
+is_table (Some (OfNode node)) = false
+is_table (Some OfPipe) = false
+is_table (Some OfProbe) = false
+is_table (Some OfWatch) = false
+
+abbrev pub is_node : Option Directive → Bool
+is_node None = false
+is_node (Some (OfSingle single)) = false
+is_node (Some (OfTable kind)) = false
+is_node (Some (OfNode node)) = true
+is_node (Some OfPipe) = false
+is_node (Some OfProbe) = false
+is_node (Some OfWatch) = false
+
+abbrev pub is_pipe : Option Directive → Bool
+is_pipe None = false
+is_pipe (Some (OfSingle single)) = false
+is_pipe (Some (OfTable kind)) = false
+is_pipe (Some (OfNode node)) = false
+is_pipe (Some OfPipe) = true
+is_pipe (Some OfProbe) = false
+is_pipe (Some OfWatch) = false
+
+abbrev pub is_sampled : Option Directive → Bool
+is_sampled None = false
+is_sampled (Some (OfSingle single)) = false
+is_sampled (Some (OfTable kind)) = false
+is_sampled (Some (OfNode node)) = false
+is_sampled (Some OfPipe) = false
+is_sampled (Some OfProbe) = true
+is_sampled (Some OfWatch) = true
+
+-- how many lines have such a directive
+unfoldable pub count_of : (Option Directive → Bool) → List (List (List ℕ)) → ℕ
+count_of is_such lines = count_by (λ fields. is_such (said fields)) lines
+
+-- whether there is no time step, no count of steps or no pipe
+unfoldable pub is_incomplete : List (List (List ℕ)) → Bool
+is_incomplete lines =
+    not (list_any (is_single_of (codes "step")) lines) || not (list_any (is_single_of (codes "steps")) lines) || (count_of is_pipe lines == 0)
+
+-- whether there are too many tables, nodes, pipes, or probes and watches
+unfoldable pub is_too_large : List (List (List ℕ)) → Bool
+is_too_large lines =
+    nat_lt 1_024 (count_of is_table lines) || nat_lt 4_096 (count_of is_node lines) || nat_lt 4_096 (count_of is_pipe lines) || nat_lt 256 (count_of is_sampled lines)
+
+unfoldable pub count_rules : List (List (List ℕ)) → Rules
+count_rules lines line number = (line == 0) && (((number == 8) && is_incomplete lines) || ((number == 10) && is_too_large lines))

@@ -1,0 +1,17 @@
+//! The rules that the lines of a case text break, by themselves and among one another, and those on
+//! the counts of its parts.
+#![tactic(auto)]
+
+mod counting;
+mod fewest;
+mod judging;
+mod names;
+mod parts;
+mod reading;
+
+pub use counting::judge_counts;
+pub use parts::{Part, named_by, part_number, said};
+pub use reading::judge_lines;
+
+#[cfg(test)]
+mod tests;
