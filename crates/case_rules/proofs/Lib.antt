@@ -1,5 +1,5 @@
 pub mod Adding
-pub mod Lines
+pub mod LinesRead
 pub mod Ranges
 pub mod Rest
 pub mod Rules

@@ -5,11 +5,13 @@
 mod counting;
 mod fewest;
 mod judging;
+mod lines;
 mod names;
 mod parts;
 mod reading;
 
 pub use counting::judge_counts;
+pub use lines::next_line;
 pub use parts::{Part, named_by, part_number, said};
 pub use reading::judge_lines;
 

@@ -1,5 +1,6 @@
-use crate::{judge_counts, judge_lines};
+use crate::{judge_counts, judge_lines, next_line};
 use reaches::CaseFault;
+use std::test::Fail;
 
 // A text, and the least rule that its lines break with its line. A name of 33 bytes that is used is
 // unknown where no line defines it, and only too long where one does; a line with a wrong count of
@@ -110,4 +111,18 @@ fn missing_directives(rt: HostRuntime) {
             Err(fault) => assert_eq!(rt; fault, CaseFault::Refused { number, line: 0 }),
         }
     }
+}
+
+// The fields of the first line, and the text behind it.
+#[test]
+fn first_line_of_a_text(rt: HostRuntime) -> Result<(), Fail> {
+    match next_line(rt.alloc(), b"a  b\n\nc")? {
+        Some((fields, rest)) => {
+            assert_eq!(rt; fields.len(), 2);
+            assert_eq!(rt; rest, b"\nc".as_slice());
+        }
+        None => assert!(rt; false, "no line"),
+    }
+    assert!(rt; next_line(rt.alloc(), b"")?.is_none());
+    Ok(())
 }

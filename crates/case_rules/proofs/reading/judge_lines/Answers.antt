@@ -5,7 +5,7 @@ use Rattle.case_rules.specs.Said.{lines_of, defines, is_single_of}
 use Rattle.case_rules.specs.Known.{same_bytes}
 use Rattle.case_rules.specs.Among.{line_rules}
 use Rattle.case_rules.proofs.Rest.{lines_more, lines_none}
-use Rattle.case_rules.proofs.Lines.{next, refused_least, kept_more, kept_none, all_kept, none_least, some_line, any_more}
+use Rattle.case_rules.proofs.LinesRead.{next, refused_least, kept_more, kept_none, all_kept, none_least, some_line, any_more}
 use Rattle.case_rules.proofs.reading.judge_lines.Goals as goal
 
 pub loop-text-init : goal.loop-text-init

@@ -1,0 +1,4 @@
+pub mod Accepted
+pub mod Built
+pub mod Named
+pub mod Verdict
