@@ -5,9 +5,9 @@ ghost use Rattle.case_rules.specs.Said.{lines_of};
 ghost use Rattle.netfile.specs.Named.{IsNamed};
 ghost use Rattle.netfile.specs.Built.{table_by, table_said as table_of_line, tables_from};
 
-use case_lines::{Directive, cut_line, field, fields_of, pair_at};
+use case_lines::{Directive, field, pair_at};
 use case_model::{List, Name, Table, TableKind};
-use case_rules::said;
+use case_rules::{next_line, said};
 use std::alloc::{AllocError, Global};
 
 /// The tables that the lines of a text say, in file order. Fails only for want of memory.
@@ -19,8 +19,7 @@ pub(crate) fn tables(alloc: Global, bytes: &[u8]) -> Result<Vec<Table>, AllocErr
     let mut found = Vec::new(alloc);
     let mut line = 0u32;
     let mut rest = bytes;
-    while let Some((text, others)) = cut_line(rest) {
-        let fields = fields_of(alloc, text)?;
+    while let Some((fields, others)) = next_line(alloc, rest)? {
         line += 1;
         add(&mut found, table_said(alloc, line, &fields)?)?;
         rest = others;
