@@ -1,6 +1,6 @@
 -- The case that lines say: their values in file order, with names resolved and defaults filled in.
-use Rattle.std.specs.Prelude.{ℕ, ◌+◌, Bool, ℤ, pos, neg_ℤ, unsigned_abs, Option, Some, None, if◌then◌else◌, unwrap_or, position, List, [], ◌∷◌, codes}
-use Rattle.std.specs.List.{find, cons_option}
+use Rattle.std.specs.Prelude.{ℕ, ◌+◌, Bool, ℤ, pos, neg_ℤ, unsigned_abs, Option, Some, None, if◌then◌else◌, unwrap_or, List, [], ◌∷◌, codes}
+use Rattle.std.specs.List.{find, position_from, cons_option}
 use Rattle.std.specs.Str.{bytes_eq}
 use Rattle.case_model.specs.declared.cases.Case.{Case}
 use Rattle.case_model.specs.declared.cases.Table.{Table}
@@ -35,13 +35,13 @@ single_amount word quantity default lines = given quantity default (find (is_sin
 -- the index of the table, the node or the pipe of this name; 0 where there is none, which the rule of
 -- unknown names refuses
 unfoldable pub table_index : List Table → List ℕ → ℕ
-table_index tables name = unwrap_or (position (λ t. bytes_eq t.name name) tables) 0
+table_index tables name = unwrap_or (position_from (λ t. bytes_eq t.name name) 0 tables) 0
 
 unfoldable pub node_index : List Node → List ℕ → ℕ
-node_index nodes name = unwrap_or (position (λ n. bytes_eq n.name name) nodes) 0
+node_index nodes name = unwrap_or (position_from (λ n. bytes_eq n.name name) 0 nodes) 0
 
 unfoldable pub pipe_index : List Pipe → List ℕ → ℕ
-pipe_index pipes name = unwrap_or (position (λ p. bytes_eq p.name name) pipes) 0
+pipe_index pipes name = unwrap_or (position_from (λ p. bytes_eq p.name name) 0 pipes) 0
 
 -- the table that line number `line` says, if any
 abbrev pub table_by : Option Directive → ℕ → List (List ℕ) → Option Table

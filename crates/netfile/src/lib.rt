@@ -1,4 +1,7 @@
 //! The case text: its meaning, a case and its mesh or the first refusal, and its reader.
 #![tactic(auto)]
 
+mod indices;
+mod nodes;
+mod singles;
 mod tables;

@@ -19,7 +19,7 @@ pub(crate) fn tables(alloc: Global, bytes: &[u8]) -> Result<Vec<Table>, AllocErr
     let mut found = Vec::new(alloc);
     let mut line = 0u32;
     let mut rest = bytes;
-    while let Some((fields, others)) = next_line(alloc, rest)? {
+    'lines: while let Some((fields, others)) = next_line(alloc, rest)? {
         line += 1;
         add(&mut found, table_said(alloc, line, &fields)?)?;
         rest = others;

@@ -5,12 +5,12 @@ use Rattle.netfile.specs.Named.{IsNamed}
 use Rattle.netfile.specs.Built.{tables_from}
 use Rattle.netfile.proofs.tables.tables.Given as goal
 
-abbrev pub invariant-loop-fields : goal.invariant-loop-fields
-invariant-loop-fields l = record {
+abbrev pub invariant-lines : goal.invariant-lines
+invariant-lines l = record {
   built : l.found.items ++ tables_from (l.line + 1) (lines_of l.rest) ≡ tables_from 1 (lines_of l.bytes);
   within : l.line + length l.rest ≤ length l.bytes;
   named : AllByRecursion IsNamed (lines_of l.rest);
 }
 
-abbrev pub decreases-loop-fields : goal.decreases-loop-fields
-decreases-loop-fields l = length l.rest
+abbrev pub decreases-lines : goal.decreases-lines
+decreases-lines l = length l.rest
