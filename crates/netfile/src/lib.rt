@@ -3,5 +3,7 @@
 
 mod indices;
 mod nodes;
+mod pipes;
+mod probes;
 mod singles;
 mod tables;
