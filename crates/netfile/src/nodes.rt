@@ -22,7 +22,8 @@ pub(crate) fn nodes(
 ) -> Result<Vec<Node>, AllocError>
     requires short { length bytes.now ≤ 8_388_608 }
     requires named { AllByRecursion IsNamed (lines_of bytes.now) }
-    ensures { IfOk result (λ v. (tables : Items Table) → IndexTables indices.now tables → v.items ≡ nodes_from tables 1 (lines_of bytes.now)) }
+    ensures few { IfOk result (λ v. length v.items ≤ 8_388_608) }
+    ensures nodes { IfOk result (λ v. (tables : Items Table) → IndexTables indices.now tables → v.items ≡ nodes_from tables 1 (lines_of bytes.now)) }
 {
     let mut found = Vec::new(alloc);
     let mut line = 0u32;

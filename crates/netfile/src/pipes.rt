@@ -23,7 +23,8 @@ pub(crate) fn pipes(
 ) -> Result<Vec<Pipe>, AllocError>
     requires short { length bytes.now ≤ 8_388_608 }
     requires named { AllByRecursion IsNamed (lines_of bytes.now) }
-    ensures { IfOk result (λ v. (nodes : Items Node) → IndexNodes indices.now nodes → v.items ≡ pipes_from nodes 1 (lines_of bytes.now)) }
+    ensures few { IfOk result (λ v. length v.items ≤ 8_388_608) }
+    ensures pipes { IfOk result (λ v. (nodes : Items Node) → IndexNodes indices.now nodes → v.items ≡ pipes_from nodes 1 (lines_of bytes.now)) }
 {
     let mut found = Vec::new(alloc);
     let mut line = 0u32;

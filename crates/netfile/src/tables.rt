@@ -1,4 +1,4 @@
-ghost use Rattle.std.specs.Prelude.{◌≡◌, ◌≤◌, ◌++◌, ◌/◌, ◌-◌, [], IfOk, length, map};
+ghost use Rattle.std.specs.Prelude.{◌≡◌, ◌≤◌, ◌+◌, ◌++◌, ◌/◌, ◌-◌, [], IfOk, length, map};
 ghost use Rattle.std.specs.List.{cons_option, range_with_len, AllByRecursion};
 ghost use Rattle.case_lines.specs.Tables.{pairs_of};
 ghost use Rattle.case_rules.specs.Said.{lines_of};
@@ -14,7 +14,8 @@ use std::alloc::{AllocError, Global};
 pub(crate) fn tables(alloc: Global, bytes: &[u8]) -> Result<Vec<Table>, AllocError>
     requires short { length bytes.now ≤ 8_388_608 }
     requires named { AllByRecursion IsNamed (lines_of bytes.now) }
-    ensures { IfOk result (λ v. v.items ≡ tables_from 1 (lines_of bytes.now)) }
+    ensures tables { IfOk result (λ v. v.items ≡ tables_from 1 (lines_of bytes.now)) }
+    ensures few { IfOk result (λ v. length v.items ≤ 8_388_608) }
 {
     let mut found = Vec::new(alloc);
     let mut line = 0u32;
@@ -29,7 +30,8 @@ pub(crate) fn tables(alloc: Global, bytes: &[u8]) -> Result<Vec<Table>, AllocErr
 
 // Adds what was found, if anything.
 pub(crate) fn add<T: Drop>(list: &mut Vec<T>, found: Option<T>) -> Result<(), AllocError>
-    ensures { IfOk result (λ u. list.new.items ≡ list.old.items ++ cons_option found []) }
+    ensures items { IfOk result (λ u. list.new.items ≡ list.old.items ++ cons_option found []) }
+    ensures few { IfOk result (λ u. length list.new.items ≤ length list.old.items + 1) }
 {
     if let Some(item) = found {
         list.push(item)?;

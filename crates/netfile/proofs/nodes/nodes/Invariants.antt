@@ -10,6 +10,7 @@ use Rattle.netfile.proofs.nodes.nodes.Given as goal
 abbrev pub invariant-lines : goal.invariant-lines
 invariant-lines l = record {
   built : (tables : List Table) → IndexTables l.indices tables → l.found.items ++ nodes_from tables (l.line + 1) (lines_of l.rest) ≡ nodes_from tables 1 (lines_of l.bytes);
+  few : length l.found.items ≤ l.line;
   within : l.line + length l.rest ≤ length l.bytes;
   named : AllByRecursion IsNamed (lines_of l.rest);
 }

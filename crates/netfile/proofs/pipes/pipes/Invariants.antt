@@ -10,6 +10,7 @@ use Rattle.netfile.proofs.pipes.pipes.Given as goal
 abbrev pub invariant-lines : goal.invariant-lines
 invariant-lines l = record {
   built : (nodes : List Node) → IndexNodes l.indices nodes → l.found.items ++ pipes_from nodes (l.line + 1) (lines_of l.rest) ≡ pipes_from nodes 1 (lines_of l.bytes);
+  few : length l.found.items ≤ l.line;
   within : l.line + length l.rest ≤ length l.bytes;
   named : AllByRecursion IsNamed (lines_of l.rest);
 }

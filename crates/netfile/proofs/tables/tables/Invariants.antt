@@ -8,6 +8,7 @@ use Rattle.netfile.proofs.tables.tables.Given as goal
 abbrev pub invariant-lines : goal.invariant-lines
 invariant-lines l = record {
   built : l.found.items ++ tables_from (l.line + 1) (lines_of l.rest) ≡ tables_from 1 (lines_of l.bytes);
+  few : length l.found.items ≤ l.line;
   within : l.line + length l.rest ≤ length l.bytes;
   named : AllByRecursion IsNamed (lines_of l.rest);
 }
