@@ -1,1 +1,3 @@
+pub mod Naming
+pub mod PartCounts
 pub mod Placed
