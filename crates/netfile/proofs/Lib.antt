@@ -1,3 +1,4 @@
+pub mod Bounds
 pub mod Naming
 pub mod PartCounts
 pub mod Placed
