@@ -6,5 +6,10 @@ mod indices;
 mod nodes;
 mod pipes;
 mod probes;
+mod reading;
+mod refusals;
 mod singles;
 mod tables;
+
+pub use reading::{MOST_BYTES, read_case};
+pub use refusals::refusals_are_first;
