@@ -1,1 +1,2 @@
+pub mod FieldLimits
 pub mod Placed
