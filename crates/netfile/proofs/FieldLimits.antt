@@ -1,5 +1,5 @@
 -- What follows of lines that break no rule: the counts, the spelling and the limits of their fields.
-use Rattle.std.proofs.Common.{◌≡◌, ◌<◌, ◌≤◌, ◌≤ℤ◌, ℕ, zero, suc, ℤ, ◌+◌, ◌-◌, ◌==◌, ◌&&◌, ◌||◌, not, nat_lt, nat_le, Bool, true, false, cond, IsTrue, Option, Some, None, Result, Ok, Err, List, [], ◌∷◌, length, take, get_or, refl, sym, ap, ◌∙◌, subst, arith, lt-ltb, le-leb}
+use Rattle.std.proofs.Common.{◌≡◌, ◌<◌, ◌≤◌, ◌≤ℤ◌, ℕ, zero, suc, ℤ, pos, neg_ℤ, unsigned_abs, ◌+◌, ◌-◌, ◌==◌, ◌&&◌, ◌||◌, not, nat_lt, nat_le, Bool, true, false, cond, IsTrue, Option, Some, None, Result, Ok, Err, List, [], ◌∷◌, length, take, get_or, refl, ap, ◌∙◌, arith, lt-ltb, le-leb}
 use Rattle.std.proofs.lemmas.Bool.{ne_eqb}
 use Rattle.std.proofs.lemmas.Bool.Decides.{nat_tests}
 use Rattle.std.proofs.lemmas.Int.{ints}
@@ -192,7 +192,7 @@ all_at P (fields ∷ lines) f = (f 0 (omega arith), all_at P lines (λ k h. f (s
 pub all_kept : (lines : List (List (List ℕ))) → IsEmpty (line_rules lines) → AllByRecursion (IsLine lines) lines
 all_kept lines empty = all_at (IsLine lines) lines (λ k h. kept_at lines k h empty)
 
-le_of : (x y : ℤ) → int_le x y ≡ true → x ≤ℤ y
+pub le_of : (x y : ℤ) → int_le x y ≡ true → x ≤ℤ y
 le_of x y h = grind (arith, ints)
 
 -- a number that is spelt, and not outside its limits, lies within them
@@ -218,3 +218,7 @@ number_kept quantity text f = in_limits quantity text (f 4) (f 5)
 pub field_kept : (lines : List (List (List ℕ))) (d : Directive) (fields : List (List ℕ)) (k : ℕ) (quantity : Quantity) → IsKept lines d fields → 1 ≤ k → k < length fields → field_kind d k ≡ Number quantity
     → IsWithin (limits quantity).least (limits quantity).most (amount quantity (field fields k))
 field_kept lines d fields k quantity h l m e = number_kept quantity (field fields k) (λ number. let f = h.each k number l m in rw e at f)
+
+-- a number between two limits of one size
+pub size_within : (most : ℕ) (x : ℤ) → IsWithin (neg_ℤ (pos most)) (pos most) x → unsigned_abs x ≤ most
+size_within most x h = omega (arith, ints)
