@@ -1,5 +1,5 @@
 -- The pairs of the tables lie within their limits and stand in order, where the lines break no rule.
-use Rattle.std.proofs.Common.{◌≡◌, ◌≤◌, ◌<◌, ◌<ℤ◌, ◌==◌, ◌&&◌, not, nat_lt, nat_le, ℕ, ◌+◌, ◌-◌, ◌*◌, ◌/◌, ◌%◌, ℤ, pos, Bool, true, false, Option, Some, None, List, [], ◌∷◌, length, map, get_or, All, refl, sym, ap, subst, arith, ◌∙◌}
+use Rattle.std.proofs.Common.{◌≡◌, ◌≤◌, ◌<◌, ◌<ℤ◌, ◌==◌, ◌&&◌, nat_lt, nat_le, ℕ, ◌+◌, ◌-◌, ◌*◌, ◌/◌, ◌%◌, ℤ, pos, Bool, true, false, Option, Some, None, List, [], ◌∷◌, length, get_or, All, refl, sym, subst, arith, ◌∙◌}
 use Rattle.std.proofs.lemmas.Bool.{ne_eqb}
 use Rattle.std.proofs.lemmas.Bool.Decides.{nat_tests, Decides-int_eq}
 use Rattle.std.proofs.lemmas.Int.{ints}
@@ -30,12 +30,12 @@ record IsCount (least most n : ℕ) : Type 0 where
   some : least ≤ (n - 2) / 2
   few : (n - 2) / 2 ≤ most
 
-count_of : (least most n : ℕ) → ((n % 2 == 0) && nat_le (2 * least + 2) n) ≡ true → nat_lt (2 * most + 2) n ≡ false → IsCount least most n
-count_of least most n h f = record { even = grind (arith, nat_tests); some = grind (arith, nat_tests); few = grind (arith, nat_tests) }
+pairs_counted : (least most n : ℕ) → ((n % 2 == 0) && nat_le (2 * least + 2) n) ≡ true → nat_lt (2 * most + 2) n ≡ false → IsCount least most n
+pairs_counted least most n h f = record { even = grind (arith, nat_tests); some = grind (arith, nat_tests); few = grind (arith, nat_tests) }
 
 table_count : (kind : TableKind) (n : ℕ) → has_count (OfTable kind) n ≡ true → has_too_many (OfTable kind) n ≡ false → IsCount (least_entries kind) (most_entries kind) n
 unfolding has_count has_too_many
-table_count kind n h f = count_of (least_entries kind) (most_entries kind) n h f
+table_count kind n h f = pairs_counted (least_entries kind) (most_entries kind) n h f
 
 first_kind : (kind : TableKind) (j : ℕ) → field_kind (OfTable kind) (2 * j + 2) ≡ Number (first_quantity kind)
 unfolding field_kind
@@ -105,8 +105,8 @@ sorted_of kind fields some h =
     record {
       begins = subst (λ e. may_begin kind e ≡ true) (sym (point_is kind fields 0 (pos 0, pos 0) some)) (and_left (may_begin kind (pair_at kind fields 0)) (follow kind fields n) h);
       follows = λ k l.
-      let m : k + 1 < n = omega (arith, points_count kind fields) in
-      rw (point_is kind fields k (pos 0, pos 0) (omega arith), point_is kind fields (k + 1) (pos 0, pos 0) m) (following kind fields n k (may_follow kind (pair_at kind fields k) (pair_at kind fields (k + 1))) refl m f);
+          let m : k + 1 < n = omega (arith, points_count kind fields) in
+          rw (point_is kind fields k (pos 0, pos 0) (omega arith), point_is kind fields (k + 1) (pos 0, pos 0) m) (following kind fields n k (may_follow kind (pair_at kind fields k) (pair_at kind fields (k + 1))) refl m f);
     }
 
 lt_of : (x y : ℤ) → int_lt x y ≡ true → x <ℤ y
