@@ -1,6 +1,10 @@
 pub mod Bounds
+pub mod FieldLimits
 pub mod Judged
 pub mod Naming
 pub mod PartCounts
+pub mod PipeLimits
 pub mod Placed
 pub mod Readable
+pub mod SingleLimits
+pub mod TableLimits

@@ -5,6 +5,29 @@ use Rattle.case_model.specs.Sets.{IsEmpty}
 use Rattle.case_rules.specs.Among.{line_rules}
 use Rattle.case_rules.specs.Counts.{count_rules}
 use Rattle.netfile.specs.Built.{case_of}
+use Rattle.netfile.proofs.PartCounts.{few_tables_in, few_nodes_in, few_pipes_in, few_probes_in}
+use Rattle.netfile.proofs.SingleLimits.{dt_in, steps_in, vapour_in, weight_in, tolerance_in, every_in}
+use Rattle.netfile.proofs.TableLimits.{tables_in}
+use Rattle.netfile.proofs.PipeLimits.{pipes_in}
 
 pub is_read : (lines : List (List (List ℕ))) → IsEmpty (line_rules lines) → IsEmpty (count_rules lines) → IsRead (case_of lines)
-is_read lines kept counts = ?
+unfolding case_of
+is_read lines kept counts = record {
+  dt = dt_in lines kept counts;
+  some_steps = (steps_in lines kept counts).0;
+  few_steps = (steps_in lines kept counts).1;
+  vapour = vapour_in lines kept counts;
+  weight = weight_in lines kept counts;
+  tolerance = tolerance_in lines kept counts;
+  some_every = (every_in lines kept counts).0;
+  few_every = (every_in lines kept counts).1;
+  few_tables = few_tables_in lines counts;
+  few_nodes = few_nodes_in lines counts;
+  few_pipes = few_pipes_in lines counts;
+  few_probes = few_probes_in lines counts;
+  tables = tables_in lines kept;
+  nodes = ?;
+  pipes = pipes_in lines kept;
+  joins = ?;
+  spots = ?;
+}
