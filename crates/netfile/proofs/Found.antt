@@ -8,6 +8,15 @@ pub or_right : (a b : Bool) → b ≡ true → (a || b) ≡ true
 or_right true b h = refl
 or_right false b h = h
 
+pub or_left : (a b : Bool) → a ≡ true → (a || b) ≡ true
+or_left true b h = refl
+or_left false b h = absurd (grind arith)
+
+-- one of two tests passes
+pub one_of : {X : Type 0} (a b : Bool) → (a || b) ≡ true → (a ≡ true → X) → (b ≡ true → X) → X
+one_of true b h f g = f refl
+one_of false b h f g = g h
+
 -- the test passes at this place of a list that begins at place i
 abbrev AtPlace : {X : Type 0} → (X → Bool) → ℕ → List X → Option ℕ → Type 0
 AtPlace p i xs None = ⊥
