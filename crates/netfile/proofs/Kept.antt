@@ -32,7 +32,7 @@ or_left : (a b : Bool) → a ≡ true → (a || b) ≡ true
 or_left true b h = refl
 or_left false b h = cc
 
-or_no_left : (a b : Bool) → (a || b) ≡ false → a ≡ false
+pub or_no_left : (a b : Bool) → (a || b) ≡ false → a ≡ false
 or_no_left true b h = h
 or_no_left false b h = refl
 
