@@ -21,7 +21,7 @@ use Rattle.case_rules.specs.declared.parts.Part.TheVariants.{ATable}
 use Rattle.case_rules.specs.Said.{defines_part}
 use Rattle.case_rules.specs.Among.{is_unknown, line_rules}
 use Rattle.netfile.specs.Built.{table_index, tables_of, value_said}
-use Rattle.netfile.proofs.Kept.{and_left, and_right, or_no_left}
+use Rattle.netfile.proofs.Kept.{and_left, and_right, not_not, or_no_left}
 use Rattle.netfile.proofs.TableNames.{table_found}
 
 -- what holds of a field that breaks no rule
@@ -32,13 +32,9 @@ pub record IsFieldKept (lines : List (List (List ℕ))) (kind : FieldKind) (text
 low_tested : (x y : ℤ) → int_le x y ≡ true → x ≤ℤ y
 low_tested x y h = grind (arith, ints)
 
-not_no : (b : Bool) → not b ≡ false → b ≡ true
-not_no true h = refl
-not_no false h = sym h
-
 number_within : (l : NumberLimits) (r : Result ℤ NumberFault) → not (is_spelt r) ≡ false → is_outside l r ≡ false → IsWithin l.least l.most (number_or_zero r)
 number_within l (Ok x) s o =
-    let b : (int_le l.least x && int_le x l.most) ≡ true = not_no (int_le l.least x && int_le x l.most) o in record {
+    let b : (int_le l.least x && int_le x l.most) ≡ true = not_not (int_le l.least x && int_le x l.most) o in record {
       low = low_tested l.least x (and_left (int_le l.least x) (int_le x l.most) b);
       high = low_tested x l.most (and_right (int_le l.least x) (int_le x l.most) b);
     }
@@ -56,7 +52,7 @@ unfolding breaks_field
 number_kept lines quantity text k = amount_within quantity text (k.alone 4) (k.alone 5)
 
 known_table : (lines : List (List (List ℕ))) → IsEmpty (line_rules lines) → (kind : TableKind) (name : List ℕ) → not (list_any (defines_part (ATable kind) name) lines) ≡ false → IsTableOf kind (tables_of lines) (table_index (tables_of lines) name)
-known_table lines empty kind name h = table_found lines empty name kind (not_no (list_any (defines_part (ATable kind) name) lines) h)
+known_table lines empty kind name h = table_found lines empty name kind (not_not (list_any (defines_part (ATable kind) name) lines) h)
 
 pub reference_kept : (lines : List (List (List ℕ))) → IsEmpty (line_rules lines) → (kind : TableKind) (text : List ℕ) → IsFieldKept lines (Reference kind) text → IsTableOf kind (tables_of lines) (table_index (tables_of lines) (referred text))
 unfolding is_unknown

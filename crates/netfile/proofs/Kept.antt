@@ -81,7 +81,7 @@ heading_said fields h =
     (bytes_eq-Decides (field fields 0) (codes "surge")).0 (and_right (length fields == 2) (bytes_eq (field fields 0) (codes "surge")) (and_left ((length fields == 2) && bytes_eq (field fields 0) (codes "surge")) (bytes_eq (field fields 1) (codes "1")) h)) in
     ap directive_of e
 
-not_not : (b : Bool) → not b ≡ false → b ≡ true
+pub not_not : (b : Bool) → not b ≡ false → b ≡ true
 not_not true h = refl
 not_not false h = sym h
 

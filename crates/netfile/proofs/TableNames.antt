@@ -71,11 +71,11 @@ pub numbered_by : (number : ℕ) (name : List ℕ) (fields : List (List ℕ)) �
 unfolding defines_numbered defines_by
 numbered_by number name fields = refl
 
-has_number_of : (number : ℕ) (name : List ℕ) (fields : List (List ℕ)) (o : Option Directive) → defines_by number name fields o ≡ true → has_number number (named_by o) ≡ true
+pub has_number_of : (number : ℕ) (name : List ℕ) (fields : List (List ℕ)) (o : Option Directive) → defines_by number name fields o ≡ true → has_number number (named_by o) ≡ true
 unfolding defines_by
 has_number_of number name fields o h = and_left (has_number number (named_by o)) (nat_lt 1 (length fields)) (and_left (has_number number (named_by o) && nat_lt 1 (length fields)) (bytes_eq (field fields 1) name) h)
 
-has_name_of : (number : ℕ) (name : List ℕ) (fields : List (List ℕ)) (o : Option Directive) → defines_by number name fields o ≡ true → bytes_eq (field fields 1) name ≡ true
+pub has_name_of : (number : ℕ) (name : List ℕ) (fields : List (List ℕ)) (o : Option Directive) → defines_by number name fields o ≡ true → bytes_eq (field fields 1) name ≡ true
 unfolding defines_by
 has_name_of number name fields o h = and_right (has_number number (named_by o) && nat_lt 1 (length fields)) (bytes_eq (field fields 1) name) h
 
@@ -83,7 +83,7 @@ has_name_of number name fields o h = and_right (has_number number (named_by o) &
 abbrev is_table_named : List ℕ → Table → Bool
 is_table_named name t = bytes_eq t.name name
 
-no_number : (number : ℕ) (name : List ℕ) (fields : List (List ℕ)) (o : Option Directive) → has_number number (named_by o) ≡ false → defines_by number name fields o ≡ true → ⊥
+pub no_number : (number : ℕ) (name : List ℕ) (fields : List (List ℕ)) (o : Option Directive) → has_number number (named_by o) ≡ false → defines_by number name fields o ≡ true → ⊥
 no_number number name fields o e h = false_true (has_number number (named_by o)) e (has_number_of number name fields o h)
 
 table_here : (name : List ℕ) (kind : TableKind) (o : Option Directive) (line : ℕ) (fields : List (List ℕ)) (more : List Table) → defines_by (part_number (ATable kind)) name fields o ≡ true
