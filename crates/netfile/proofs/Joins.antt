@@ -1,43 +1,26 @@
 -- The pipes of lines that break no rule join nodes that are there.
-use Rattle.std.proofs.Common.{◌≡◌, ◌<◌, ◌≤◌, ℕ, zero, suc, ◌+◌, ◌==◌, not, Bool, true, false, pos, ◌≤ℤ◌, ℤ, unsigned_abs, List, [], ◌∷◌, length, Option, Some, None, refl, sym, ap, ◌∙◌, subst, arith}
+use Rattle.std.proofs.Common.{◌≡◌, ◌<◌, ℕ, suc, ◌+◌, Bool, true, false, List, [], ◌∷◌, length, Option, Some, None, refl, sym, ◌∙◌, arith}
 use Rattle.std.proofs.lemmas.Bool.Decides.{nat_tests}
-use Rattle.std.proofs.lemmas.Int.{ints}
 use Rattle.std.proofs.lemmas.List.Elements.{All-from_recursion}
 use Rattle.std.specs.List.{list_any, All, AllByRecursion, cons_option}
 use Rattle.std.specs.Option.{IfSome}
 use Rattle.std.specs.Str.{bytes_eq}
 use Rattle.case_model.specs.Sets.{IsEmpty}
-use Rattle.case_model.specs.Limits.{IsWithin, IsJoined, IsSpot}
+use Rattle.case_model.specs.Limits.{IsJoined}
 use Rattle.case_model.specs.declared.cases.Table.{Table}
-use Rattle.case_model.specs.declared.cases.TableKind.{TableKind}
-use Rattle.case_model.specs.declared.cases.TableKind.TheVariants.{Heads, Flows, Openings, Speeds, Curve, Gas}
 use Rattle.case_model.specs.declared.cases.Node.{Node}
 use Rattle.case_model.specs.declared.cases.Pipe.{Pipe}
-use Rattle.case_model.specs.declared.cases.Probe.{Probe}
-use Rattle.case_model.specs.declared.cases.ProbeAt.TheVariants.{OnPipe, OnNode}
 use Rattle.case_lines.specs.declared.words.Directive.{Directive}
 use Rattle.case_lines.specs.declared.words.Directive.TheVariants.{OfSingle, OfTable, OfNode, OfPipe, OfProbe, OfWatch}
-use Rattle.case_lines.specs.declared.quantities.Quantity.TheVariants.{PipePlace}
-use Rattle.case_lines.specs.declared.fields.FieldKind.{FieldKind}
-use Rattle.case_lines.specs.declared.fields.FieldKind.TheVariants.{NodeName, PipeName, Number}
-use Rattle.case_lines.specs.Quantities.{amount}
+use Rattle.case_lines.specs.declared.fields.FieldKind.TheVariants.{NodeName}
 use Rattle.case_lines.specs.Fields.{field, field_kind, has_count}
-use Rattle.case_rules.specs.declared.parts.Part.TheVariants.{ATable, ANode, APipe}
-use Rattle.case_rules.specs.Said.{line_at, said, part_number, defines_part}
+use Rattle.case_rules.specs.declared.parts.Part.TheVariants.{ANode}
+use Rattle.case_rules.specs.Said.{line_at, said, defines_part}
 use Rattle.case_rules.specs.Among.{is_unknown, line_rules}
-use Rattle.netfile.specs.Built.{node_index, node_by, node_said, nodes_from, nodes_of, tables_of, pipe_index, pipe_of, pipe_by, pipe_said, pipes_from, pipes_of, probe_by, probe_said, probes_from, probes_of}
+use Rattle.netfile.specs.Built.{node_index, node_by, node_said, nodes_from, nodes_of, tables_of, pipe_of, pipe_by, pipe_said, pipes_from, pipes_of}
 use Rattle.netfile.proofs.Found.{found, all_cons, any_cons, or_left, one_of}
-use Rattle.netfile.proofs.Kept.{IsKept, line_kept, not_not, false_true}
-use Rattle.netfile.proofs.Amounts.{IsFieldKept, number_kept}
-use Rattle.netfile.proofs.TableNames.{defines_by, numbered_by, no_number, has_number_of, has_name_of}
-
-no_table_number : (kind : TableKind) → (part_number (ATable kind) == 6) ≡ true → ⊥
-no_table_number Heads h = grind arith
-no_table_number Flows h = grind arith
-no_table_number Openings h = grind arith
-no_table_number Speeds h = grind arith
-no_table_number Curve h = grind arith
-no_table_number Gas h = grind arith
+use Rattle.netfile.proofs.Kept.{IsKept, line_kept, not_not}
+use Rattle.netfile.proofs.TableNames.{defines_by, numbered_by, no_number, no_table_number, has_number_of, has_name_of}
 
 -- whether a node has this name
 abbrev is_node_named : List ℕ → Node → Bool
@@ -47,7 +30,7 @@ node_here : (name : List ℕ) (tables : List Table) (o : Option Directive) (line
     → list_any (is_node_named name) (cons_option (node_by tables o line fields) more) ≡ true
 node_here name tables None line fields more h = absurd (no_number 6 name fields None refl h)
 node_here name tables (Some (OfSingle single)) line fields more h = absurd (no_number 6 name fields (Some (OfSingle single)) refl h)
-node_here name tables (Some (OfTable kind)) line fields more h = absurd (no_table_number kind (has_number_of 6 name fields (Some (OfTable kind)) h))
+node_here name tables (Some (OfTable kind)) line fields more h = absurd (no_table_number kind 6 (omega arith) (has_number_of 6 name fields (Some (OfTable kind)) h))
 node_here name tables (Some (OfNode node)) line fields more h = or_left (bytes_eq (field fields 1) name) (list_any (is_node_named name) more) (has_name_of 6 name fields (Some (OfNode node)) h)
 node_here name tables (Some OfPipe) line fields more h = absurd (no_number 6 name fields (Some OfPipe) refl h)
 node_here name tables (Some OfProbe) line fields more h = absurd (no_number 6 name fields (Some OfProbe) refl h)

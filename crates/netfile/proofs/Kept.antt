@@ -1,5 +1,5 @@
 -- What lines that break no rule keep: the count of their fields, and what each field must be.
-use Rattle.std.proofs.Common.{◌≡◌, ◌<◌, ◌≤◌, ℕ, zero, suc, ◌+◌, ◌-◌, ◌==◌, ◌&&◌, ◌||◌, not, nat_lt, nat_le, Bool, true, false, cond, IsTrue, List, [], ◌∷◌, length, take, get_or, Option, Some, None, codes, refl, sym, ap, ◌∙◌, subst, arith}
+use Rattle.std.proofs.Common.{◌≡◌, ◌<◌, ◌≤◌, ℕ, suc, ◌+◌, ◌-◌, ◌==◌, ◌&&◌, ◌||◌, not, nat_lt, nat_le, Bool, true, false, cond, IsTrue, List, [], ◌∷◌, length, take, get_or, Option, Some, None, codes, refl, sym, ap, ◌∙◌, subst, arith}
 use Rattle.std.proofs.lemmas.List.FromFn.{length-range_with_len, get_or-range_with_len}
 use Rattle.std.proofs.lemmas.List.Folds.{list_any_at}
 use Rattle.std.proofs.lemmas.Bool.Decides.{nat_tests}
@@ -13,7 +13,7 @@ use Rattle.case_lines.specs.Words.{directive_of, single_of, table_of, node_of}
 use Rattle.case_lines.specs.Fields.{field, field_kind, has_count, has_too_many, is_heading}
 use Rattle.case_lines.specs.Tables.{is_disordered}
 use Rattle.case_lines.specs.Alone.{breaks_field, breaks_fields, breaks_counted as breaks_counted_alone, breaks_known, breaks_alone, is_readable}
-use Rattle.case_rules.specs.Said.{line_at, said, named_by, is_some_part, is_definition, defines, is_single, is_single_of}
+use Rattle.case_rules.specs.Said.{line_at, said, is_definition, defines}
 use Rattle.case_rules.specs.Among.{is_unknown, uses_unknown, breaks_counted, breaks_among, breaks_line, line_rules}
 
 not_true : (b : Bool) → (IsTrue b → ⊥) → b ≡ false

@@ -1,5 +1,5 @@
 -- The probes and watches of lines that break no rule stand at pipes and nodes that are there.
-use Rattle.std.proofs.Common.{◌≡◌, ◌<◌, ◌≤◌, ℕ, zero, suc, ◌+◌, ◌==◌, not, Bool, true, false, pos, ◌≤ℤ◌, ℤ, unsigned_abs, List, [], ◌∷◌, length, Option, Some, None, refl, sym, ap, ◌∙◌, subst, arith}
+use Rattle.std.proofs.Common.{◌≡◌, ◌<◌, ◌≤◌, ℕ, suc, ◌+◌, Bool, true, false, pos, ◌≤ℤ◌, ℤ, unsigned_abs, List, [], ◌∷◌, length, Option, Some, None, refl, sym, ◌∙◌, arith}
 use Rattle.std.proofs.lemmas.Bool.Decides.{nat_tests}
 use Rattle.std.proofs.lemmas.Int.{ints}
 use Rattle.std.proofs.lemmas.List.Elements.{All-from_recursion}
@@ -7,10 +7,7 @@ use Rattle.std.specs.List.{list_any, All, AllByRecursion, cons_option}
 use Rattle.std.specs.Option.{IfSome}
 use Rattle.std.specs.Str.{bytes_eq}
 use Rattle.case_model.specs.Sets.{IsEmpty}
-use Rattle.case_model.specs.Limits.{IsWithin, IsJoined, IsSpot}
-use Rattle.case_model.specs.declared.cases.Table.{Table}
-use Rattle.case_model.specs.declared.cases.TableKind.{TableKind}
-use Rattle.case_model.specs.declared.cases.TableKind.TheVariants.{Heads, Flows, Openings, Speeds, Curve, Gas}
+use Rattle.case_model.specs.Limits.{IsSpot}
 use Rattle.case_model.specs.declared.cases.Node.{Node}
 use Rattle.case_model.specs.declared.cases.Pipe.{Pipe}
 use Rattle.case_model.specs.declared.cases.Probe.{Probe}
@@ -18,27 +15,18 @@ use Rattle.case_model.specs.declared.cases.ProbeAt.TheVariants.{OnPipe, OnNode}
 use Rattle.case_lines.specs.declared.words.Directive.{Directive}
 use Rattle.case_lines.specs.declared.words.Directive.TheVariants.{OfSingle, OfTable, OfNode, OfPipe, OfProbe, OfWatch}
 use Rattle.case_lines.specs.declared.quantities.Quantity.TheVariants.{PipePlace}
-use Rattle.case_lines.specs.declared.fields.FieldKind.{FieldKind}
-use Rattle.case_lines.specs.declared.fields.FieldKind.TheVariants.{NodeName, PipeName, Number}
+use Rattle.case_lines.specs.declared.fields.FieldKind.TheVariants.{PipeName, Number}
 use Rattle.case_lines.specs.Quantities.{amount}
 use Rattle.case_lines.specs.Fields.{field, field_kind, has_count}
-use Rattle.case_rules.specs.declared.parts.Part.TheVariants.{ATable, ANode, APipe}
-use Rattle.case_rules.specs.Said.{line_at, said, part_number, defines_part}
+use Rattle.case_rules.specs.declared.parts.Part.TheVariants.{APipe}
+use Rattle.case_rules.specs.Said.{line_at, said, defines_part}
 use Rattle.case_rules.specs.Among.{is_unknown, line_rules}
-use Rattle.netfile.specs.Built.{node_index, node_by, node_said, nodes_from, nodes_of, tables_of, pipe_index, pipe_of, pipe_by, pipe_said, pipes_from, pipes_of, probe_by, probe_said, probes_from, probes_of}
+use Rattle.netfile.specs.Built.{node_index, nodes_of, pipe_index, pipe_of, pipe_by, pipe_said, pipes_from, pipes_of, probe_by, probe_said, probes_from, probes_of}
 use Rattle.netfile.proofs.Found.{found, all_cons, any_cons, or_left, one_of}
-use Rattle.netfile.proofs.Kept.{IsKept, line_kept, not_not, false_true}
+use Rattle.netfile.proofs.Kept.{IsKept, line_kept, not_not}
 use Rattle.netfile.proofs.Amounts.{IsFieldKept, number_kept}
 use Rattle.netfile.proofs.Joins.{node_named}
-use Rattle.netfile.proofs.TableNames.{defines_by, numbered_by, no_number, has_number_of, has_name_of}
-
-no_table_number : (kind : TableKind) → (part_number (ATable kind) == 7) ≡ true → ⊥
-no_table_number Heads h = grind arith
-no_table_number Flows h = grind arith
-no_table_number Openings h = grind arith
-no_table_number Speeds h = grind arith
-no_table_number Curve h = grind arith
-no_table_number Gas h = grind arith
+use Rattle.netfile.proofs.TableNames.{defines_by, numbered_by, no_number, no_table_number, has_number_of, has_name_of}
 
 -- whether a pipe has this name
 abbrev is_pipe_named : List ℕ → Pipe → Bool
@@ -52,7 +40,7 @@ pipe_here : (name : List ℕ) (nodes : List Node) (o : Option Directive) (line :
     → list_any (is_pipe_named name) (cons_option (pipe_by nodes o line fields) more) ≡ true
 pipe_here name nodes None line fields more h = absurd (no_number 7 name fields None refl h)
 pipe_here name nodes (Some (OfSingle single)) line fields more h = absurd (no_number 7 name fields (Some (OfSingle single)) refl h)
-pipe_here name nodes (Some (OfTable kind)) line fields more h = absurd (no_table_number kind (has_number_of 7 name fields (Some (OfTable kind)) h))
+pipe_here name nodes (Some (OfTable kind)) line fields more h = absurd (no_table_number kind 7 (omega arith) (has_number_of 7 name fields (Some (OfTable kind)) h))
 pipe_here name nodes (Some (OfNode node)) line fields more h = absurd (no_number 7 name fields (Some (OfNode node)) refl h)
 pipe_here name nodes (Some OfPipe) line fields more h =
     or_left (is_pipe_named name (pipe_of nodes line fields)) (list_any (is_pipe_named name) more) (named_pipe name nodes line fields (has_name_of 7 name fields (Some OfPipe) h))

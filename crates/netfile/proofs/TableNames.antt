@@ -1,8 +1,8 @@
 -- A reference names a table of the kind that is wanted.
-use Rattle.std.proofs.Common.{◌≡◌, ◌<◌, ◌≤◌, ℕ, zero, suc, ◌+◌, ◌*◌, ◌%◌, ◌==◌, ◌&&◌, ◌||◌, nat_lt, nat_le, Bool, true, false, cond, List, [], ◌∷◌, length, take, get_or, Option, Some, None, refl, sym, ap, ◌∙◌, subst, eq-eqb, arith}
+use Rattle.std.proofs.Common.{◌≡◌, ◌<◌, ◌≤◌, ℕ, suc, ◌+◌, ◌*◌, ◌%◌, ◌==◌, ◌&&◌, nat_lt, nat_le, Bool, true, false, cond, List, [], ◌∷◌, length, take, Option, Some, None, refl, sym, ap, ◌∙◌, subst, eq-eqb, arith}
 use Rattle.std.proofs.lemmas.List.{get_or-take, length-take-le}
 use Rattle.std.proofs.lemmas.List.Folds.{list_any_at}
-use Rattle.std.proofs.lemmas.List.Elements.{All-from_recursion, All-get_or}
+use Rattle.std.proofs.lemmas.List.Elements.{All-from_recursion}
 use Rattle.std.proofs.lemmas.Bool.Decides.{nat_tests}
 use Rattle.std.proofs.lemmas.Slice.Eq.{bytes_eq-Decides}
 use Rattle.std.specs.Prelude.{unwrap_or}
@@ -19,12 +19,12 @@ use Rattle.case_lines.specs.declared.words.Directive.TheVariants.{OfSingle, OfTa
 use Rattle.case_lines.specs.Fields.{field, has_count}
 use Rattle.case_lines.specs.Tables.{pairs_of}
 use Rattle.case_rules.specs.declared.parts.Part.{Part}
-use Rattle.case_rules.specs.declared.parts.Part.TheVariants.{ATable, ANode, APipe}
+use Rattle.case_rules.specs.declared.parts.Part.TheVariants.{ATable}
 use Rattle.case_rules.specs.Said.{line_at, said, named_by, has_number, part_number, is_some_part, is_definition, defines, defines_numbered, defines_part}
 use Rattle.case_rules.specs.Among.{line_rules}
 use Rattle.netfile.specs.Built.{table_index, table_by, table_said, tables_from, tables_of}
 use Rattle.netfile.proofs.Found.{IsFound, found, all_cons, any_cons, or_left, one_of}
-use Rattle.netfile.proofs.Kept.{IsKept, line_kept, name_once, and_left, and_right, false_true}
+use Rattle.netfile.proofs.Kept.{line_kept, name_once, and_left, and_right, false_true}
 
 eqb_same : (a b : ℕ) → (a == b) ≡ true → a ≡ b
 eqb_same a b h = grind (arith, nat_tests)
@@ -47,21 +47,20 @@ same_kind kind other h =
     let e : part_number (ATable kind) ≡ part_number (ATable other) = eqb_same (part_number (ATable kind)) (part_number (ATable other)) h in
     sym (kind_back kind) ∙ ap kind_numbered e ∙ kind_back other
 
-pub no_node_number : (kind : TableKind) → (6 == part_number (ATable kind)) ≡ true → ⊥
-no_node_number Heads h = grind arith
-no_node_number Flows h = grind arith
-no_node_number Openings h = grind arith
-no_node_number Speeds h = grind arith
-no_node_number Curve h = grind arith
-no_node_number Gas h = grind arith
+-- the numbers of tables are below those of nodes and pipes
+table_number : (kind : TableKind) → part_number (ATable kind) < 6
+table_number Heads = omega arith
+table_number Flows = omega arith
+table_number Openings = omega arith
+table_number Speeds = omega arith
+table_number Curve = omega arith
+table_number Gas = omega arith
 
-pub no_pipe_number : (kind : TableKind) → (7 == part_number (ATable kind)) ≡ true → ⊥
-no_pipe_number Heads h = grind arith
-no_pipe_number Flows h = grind arith
-no_pipe_number Openings h = grind arith
-no_pipe_number Speeds h = grind arith
-no_pipe_number Curve h = grind arith
-no_pipe_number Gas h = grind arith
+pub no_table_number : (kind : TableKind) (number : ℕ) → 6 ≤ number → (part_number (ATable kind) == number) ≡ true → ⊥
+no_table_number kind number n h = let e = eqb_same (part_number (ATable kind)) number h in omega (arith, table_number kind, e)
+
+no_part_number : (kind : TableKind) (number : ℕ) → 6 ≤ number → (number == part_number (ATable kind)) ≡ true → ⊥
+no_part_number kind number n h = let e = eqb_same number (part_number (ATable kind)) h in omega (arith, table_number kind, e)
 
 -- whether a line with this directive defines the name for the kind of this number
 pub defines_by : ℕ → List ℕ → List (List ℕ) → Option Directive → Bool
@@ -91,8 +90,8 @@ table_here : (name : List ℕ) (kind : TableKind) (o : Option Directive) (line :
 table_here name kind None line fields more h = absurd (no_number (part_number (ATable kind)) name fields None refl h)
 table_here name kind (Some (OfSingle single)) line fields more h = absurd (no_number (part_number (ATable kind)) name fields (Some (OfSingle single)) refl h)
 table_here name kind (Some (OfTable own)) line fields more h = or_left (bytes_eq (field fields 1) name) (list_any (is_table_named name) more) (has_name_of (part_number (ATable kind)) name fields (Some (OfTable own)) h)
-table_here name kind (Some (OfNode node)) line fields more h = absurd (no_node_number kind (has_number_of (part_number (ATable kind)) name fields (Some (OfNode node)) h))
-table_here name kind (Some OfPipe) line fields more h = absurd (no_pipe_number kind (has_number_of (part_number (ATable kind)) name fields (Some OfPipe) h))
+table_here name kind (Some (OfNode node)) line fields more h = absurd (no_part_number kind 6 (omega arith) (has_number_of (part_number (ATable kind)) name fields (Some (OfNode node)) h))
+table_here name kind (Some OfPipe) line fields more h = absurd (no_part_number kind 7 (omega arith) (has_number_of (part_number (ATable kind)) name fields (Some OfPipe) h))
 table_here name kind (Some OfProbe) line fields more h = absurd (no_number (part_number (ATable kind)) name fields (Some OfProbe) refl h)
 table_here name kind (Some OfWatch) line fields more h = absurd (no_number (part_number (ATable kind)) name fields (Some OfWatch) refl h)
 
