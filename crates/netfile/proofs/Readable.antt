@@ -9,6 +9,9 @@ use Rattle.netfile.proofs.PartCounts.{few_tables_in, few_nodes_in, few_pipes_in,
 use Rattle.netfile.proofs.SingleLimits.{dt_in, steps_in, vapour_in, weight_in, tolerance_in, every_in}
 use Rattle.netfile.proofs.TableLimits.{tables_in}
 use Rattle.netfile.proofs.PipeLimits.{pipes_in}
+use Rattle.netfile.proofs.NodeLimits.{nodes_in}
+use Rattle.netfile.proofs.Joins.{joins_in}
+use Rattle.netfile.proofs.Spots.{spots_in}
 
 pub is_read : (lines : List (List (List ℕ))) → IsEmpty (line_rules lines) → IsEmpty (count_rules lines) → IsRead (case_of lines)
 unfolding case_of
@@ -26,8 +29,8 @@ is_read lines kept counts = record {
   few_pipes = few_pipes_in lines counts;
   few_probes = few_probes_in lines counts;
   tables = tables_in lines kept;
-  nodes = ?;
+  nodes = nodes_in lines kept;
   pipes = pipes_in lines kept;
-  joins = ?;
-  spots = ?;
+  joins = joins_in lines kept;
+  spots = spots_in lines kept;
 }
