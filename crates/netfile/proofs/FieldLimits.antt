@@ -1,0 +1,224 @@
+-- What follows of lines that break no rule: the counts, the spelling and the limits of their fields.
+use Rattle.std.proofs.Common.{◌≡◌, ◌<◌, ◌≤◌, ◌≤ℤ◌, ℕ, zero, suc, ℤ, pos, neg_ℤ, unsigned_abs, ◌+◌, ◌-◌, ◌==◌, ◌&&◌, ◌||◌, not, nat_lt, nat_le, Bool, true, false, cond, IsTrue, Some, None, Result, Ok, Err, List, [], ◌∷◌, length, take, get_or, refl, ap, ◌∙◌, arith, lt-ltb, le-leb}
+use Rattle.std.proofs.lemmas.Bool.{ne_eqb}
+use Rattle.std.proofs.lemmas.Bool.Decides.{nat_tests}
+use Rattle.std.proofs.lemmas.Int.{ints}
+use Rattle.std.proofs.lemmas.List.Folds.{list_any_at}
+use Rattle.std.proofs.lemmas.List.FromFn.{length-range_with_len, get_or-range_with_len}
+use Rattle.std.proofs.lemmas.Slice.Eq.{bytes_eq-Decides}
+use Rattle.std.specs.Prelude.{int_le, codes}
+use Rattle.std.specs.List.{list_any, range_with_len, AllByRecursion}
+use Rattle.std.specs.Str.{bytes_eq}
+use Rattle.fixed_num.specs.declared.decimal.NumberFault.{NumberFault}
+use Rattle.fixed_num.specs.declared.decimal.NumberFault.TheVariants.{Spelling, Places, Large}
+use Rattle.case_model.specs.Limits.{IsWithin}
+use Rattle.case_model.specs.Sets.{IsEmpty}
+use Rattle.case_lines.specs.declared.words.Directive.{Directive}
+use Rattle.case_lines.specs.declared.quantities.NumberLimits.{NumberLimits}
+use Rattle.case_lines.specs.declared.quantities.Quantity.{Quantity}
+use Rattle.case_lines.specs.declared.fields.FieldKind.TheVariants.{Number}
+use Rattle.case_lines.specs.Words.{directive_of, single_of, table_of, node_of}
+use Rattle.case_lines.specs.Quantities.{limits, quantity_in, is_spelt, is_outside, number_or_zero, amount}
+use Rattle.case_lines.specs.Fields.{field, is_heading, field_kind, has_count, has_too_many}
+use Rattle.case_lines.specs.Tables.{is_disordered}
+use Rattle.case_lines.specs.Alone.{breaks_number, breaks_field, breaks_fields, is_readable, breaks_counted, breaks_known, breaks_alone}
+use Rattle.case_rules.specs.Said.{line_at, said}
+use Rattle.case_rules.specs.Among.{is_unknown, uses_unknown, breaks_counted as breaks_counted_among, breaks_among, breaks_line, line_rules}
+
+-- what is known of a line with this directive among lines that break no rule
+pub record IsKept (lines : List (List (List ℕ))) (d : Directive) (fields : List (List ℕ)) : Type 0 where
+  pub counted : has_count d (length fields) ≡ true
+  pub few : has_too_many d (length fields) ≡ false
+  pub each : (k number : ℕ) → 1 ≤ k → k < length fields → breaks_field (field_kind d k) (field fields k) number ≡ false
+  pub ordered : is_disordered d fields ≡ false
+  pub known : (k : ℕ) → 1 ≤ k → k < length fields → is_unknown lines (field_kind d k) (field fields k) ≡ false
+
+-- the same of a line with whatever directive
+abbrev pub IsLine : List (List (List ℕ)) → List (List ℕ) → Type 0
+IsLine lines fields = (d : Directive) → said fields ≡ Some d → IsKept lines d fields
+
+pub and_left : (a b : Bool) → (a && b) ≡ true → a ≡ true
+and_left true b h = refl
+and_left false b h = h
+
+pub and_right : (a b : Bool) → (a && b) ≡ true → b ≡ true
+and_right true b h = h
+and_right false b h = cc
+
+pub or_left : (a b : Bool) → (a || b) ≡ false → a ≡ false
+or_left true b h = cc
+or_left false b h = refl
+
+pub or_right : (a b : Bool) → (a || b) ≡ false → b ≡ false
+or_right true b h = cc
+or_right false b h = h
+
+pub not_not : (b : Bool) → not b ≡ false → b ≡ true
+not_not true h = refl
+not_not false h = cc
+
+not_true : (b : Bool) → (IsTrue b → ⊥) → b ≡ false
+not_true true h = absurd (h refl)
+not_true false h = refl
+
+-- where none of a range of numbers passes a test, each of them fails
+failing : (p : ℕ → Bool) (n k : ℕ) (b : Bool) → p k ≡ b → 1 ≤ k → k ≤ n → list_any p (range_with_len 1 n) ≡ false → b ≡ false
+failing p n k true e h l f =
+    let i : get_or (range_with_len 1 n) (k - 1) 0 ≡ k = get_or-range_with_len 1 n (k - 1) 0 (omega arith) ∙ omega arith in
+    let t : list_any p (range_with_len 1 n) ≡ true = list_any_at p (range_with_len 1 n) (k - 1) 0 (omega (arith, length-range_with_len 1 n)) (rw i e) in
+    absurd (cc)
+failing p n k false e h l f = refl
+
+-- a rule that a line breaks is among the rules that the lines break
+on_line : (lines : List (List (List ℕ))) (k number : ℕ) → k < length lines → IsTrue (breaks_line (take k lines) lines (k + 1) (line_at lines k) number) → IsTrue (line_rules lines (k + 1) number)
+unfolding line_rules
+on_line lines k number h b =
+    let o : k + 1 - 1 ≡ k = omega arith in
+    let p : nat_lt 0 (k + 1) ≡ true = lt-ltb 0 (k + 1) (omega arith) in
+    let q : nat_le (k + 1) (length lines) ≡ true = le-leb (k + 1) (length lines) (omega arith) in
+    rw (p, q, o, b) refl
+
+pub line_none : (lines : List (List (List ℕ))) (k number : ℕ) → k < length lines → IsEmpty (line_rules lines) → breaks_line (take k lines) lines (k + 1) (line_at lines k) number ≡ false
+line_none lines k number h empty = not_true _ (λ b. empty (k + 1) number (on_line lines k number h b))
+
+alone_none : (before lines : List (List (List ℕ))) (line number : ℕ) (fields : List (List ℕ)) → breaks_line before lines line fields number ≡ false → breaks_alone line fields number ≡ false
+unfolding breaks_line
+alone_none before lines line number fields h = or_left (breaks_alone line fields number) _ h
+
+among_none : (before lines : List (List (List ℕ))) (line number : ℕ) (fields : List (List ℕ)) → (line == 1) ≡ false → breaks_line before lines line fields number ≡ false → breaks_among before lines (said fields) fields number ≡ false
+unfolding breaks_line
+among_none before lines line number fields e h =
+    let r : (not (line == 1) && breaks_among before lines (said fields) fields number) ≡ false = or_right (breaks_alone line fields number) _ h in
+    rw e at r
+
+-- the first line has no directive
+surge_none : directive_of (codes "surge") ≡ None
+unfolding directive_of single_of table_of node_of
+surge_none = refl
+
+heading_word : (fields : List (List ℕ)) → is_heading fields ≡ true → bytes_eq (field fields 0) (codes "surge") ≡ true
+heading_word fields h = and_right (length fields == 2) (bytes_eq (field fields 0) (codes "surge")) (and_left ((length fields == 2) && bytes_eq (field fields 0) (codes "surge")) (bytes_eq (field fields 1) (codes "1")) h)
+
+heading_none : (fields : List (List ℕ)) → is_heading fields ≡ true → said fields ≡ None
+unfolding said
+heading_none fields h = ap directive_of ((bytes_eq-Decides (field fields 0) (codes "surge")).0 (heading_word fields h)) ∙ surge_none
+
+first_heading : (fields : List (List ℕ)) → breaks_alone 1 fields 1 ≡ false → is_heading fields ≡ true
+unfolding breaks_alone
+first_heading fields h = not_not (is_heading fields) h
+
+-- nor has a line without fields
+empty_none : (fields : List (List ℕ)) → (length fields == 0) ≡ true → said fields ≡ None
+unfolding said directive_of single_of table_of node_of
+empty_none [] h = refl
+empty_none (f ∷ fields) h = absurd (grind (arith, nat_tests))
+
+some_fields : (fields : List (List ℕ)) (d : Directive) (b : Bool) → (length fields == 0) ≡ b → said fields ≡ Some d → b ≡ false
+some_fields fields d true e h = absurd (let n = empty_none fields e in cc)
+some_fields fields d false e h = refl
+
+known_none : (line number : ℕ) (fields : List (List ℕ)) (d : Directive) → (line == 1) ≡ false → said fields ≡ Some d → breaks_alone line fields number ≡ false → breaks_known (Some d) fields number ≡ false
+unfolding breaks_alone said
+known_none line number fields d e s h =
+    let z : (length fields == 0) ≡ false = some_fields fields d (length fields == 0) refl s in
+    rw (e, z, s) at h
+
+counted_of : (b x : Bool) → cond b x true ≡ false → b ≡ true
+counted_of true x h = refl
+counted_of false x h = cc
+
+has_counted : (fields : List (List ℕ)) (d : Directive) → breaks_known (Some d) fields 3 ≡ false → has_count d (length fields) ≡ true
+has_counted fields d h = counted_of (has_count d (length fields)) (breaks_counted d fields 3) h
+
+counted_none : (fields : List (List ℕ)) (d : Directive) (number : ℕ) → has_count d (length fields) ≡ true → breaks_known (Some d) fields number ≡ false → breaks_counted d fields number ≡ false
+counted_none fields d number c h = rw c at h
+
+fields_none : (fields : List (List ℕ)) (d : Directive) (number : ℕ) → breaks_counted d fields number ≡ false → breaks_fields d fields (length fields - 1) number ≡ false
+unfolding breaks_counted
+fields_none fields d number h =
+    let f = breaks_fields d fields (length fields - 1) number in
+    let many = (number == 10) && has_too_many d (length fields) in
+    or_left f many (or_left (f || many) ((number == 14) && is_readable d fields && is_disordered d fields) h)
+
+field_none : (fields : List (List ℕ)) (d : Directive) (k number : ℕ) → 1 ≤ k → k < length fields → breaks_fields d fields (length fields - 1) number ≡ false → breaks_field (field_kind d k) (field fields k) number ≡ false
+unfolding breaks_fields
+field_none fields d k number h l f =
+    failing (λ j. breaks_field (field_kind d j) (field fields j) number) (length fields - 1) k (breaks_field (field_kind d k) (field fields k) number) refl h (omega arith) f
+
+not_many : (fields : List (List ℕ)) (d : Directive) → breaks_counted d fields 10 ≡ false → has_too_many d (length fields) ≡ false
+unfolding breaks_counted
+not_many fields d h =
+    let f = breaks_fields d fields (length fields - 1) 10 in
+    or_right f (has_too_many d (length fields)) (or_left (f || has_too_many d (length fields)) false h)
+
+not_disordered : (fields : List (List ℕ)) (d : Directive) → breaks_fields d fields (length fields - 1) 4 ≡ false → breaks_fields d fields (length fields - 1) 5 ≡ false → breaks_counted d fields 14 ≡ false → is_disordered d fields ≡ false
+unfolding breaks_counted
+not_disordered fields d f g h =
+    let r : (is_readable d fields && is_disordered d fields) ≡ false = or_right (breaks_fields d fields (length fields - 1) 14 || false) (is_readable d fields && is_disordered d fields) h in
+    rw (f, g) at r
+
+unknown_none : (before lines : List (List (List ℕ))) (fields : List (List ℕ)) (d : Directive) (k : ℕ) → has_count d (length fields) ≡ true → said fields ≡ Some d → breaks_among before lines (said fields) fields 7 ≡ false → 1 ≤ k → k < length fields
+    → is_unknown lines (field_kind d k) (field fields k) ≡ false
+unfolding breaks_among breaks_counted_among uses_unknown
+unknown_none before lines fields d k c s h l m =
+    let b : uses_unknown lines d fields (length fields - 1) ≡ false = or_left (uses_unknown lines d fields (length fields - 1)) false (rw (s, c) at h) in
+    failing (λ j. is_unknown lines (field_kind d j) (field fields j)) (length fields - 1) k (is_unknown lines (field_kind d k) (field fields k)) refl l (omega arith) b
+
+-- a line behind the first
+line_kept : (lines : List (List (List ℕ))) (k : ℕ) (d : Directive) → 1 ≤ k → k < length lines → IsEmpty (line_rules lines) → said (line_at lines k) ≡ Some d → IsKept lines d (line_at lines k)
+line_kept lines k d l h empty s =
+    let e : (k + 1 == 1) ≡ false = ne_eqb (k + 1) 1 (λ z. absurd (omega arith)) in
+    let fields = line_at lines k in
+    let known : (number : ℕ) → breaks_known (Some d) fields number ≡ false = λ number. known_none (k + 1) number fields d e s (alone_none (take k lines) lines (k + 1) number fields (line_none lines k number h empty)) in
+    let c : has_count d (length fields) ≡ true = has_counted fields d (known 3) in
+    let none : (number : ℕ) → breaks_counted d fields number ≡ false = λ number. counted_none fields d number c (known number) in
+    record {
+      counted = c;
+      few = not_many fields d (none 10);
+      each = λ j number a b. field_none fields d j number a b (fields_none fields d number (none number));
+      ordered = not_disordered fields d (fields_none fields d 4 (none 4)) (fields_none fields d 5 (none 5)) (none 14);
+      known = λ j a b. unknown_none (take k lines) lines fields d j c s (among_none (take k lines) lines (k + 1) 7 fields e (line_none lines k 7 h empty)) a b;
+    }
+
+-- each line of a text that breaks no rule of lines
+pub kept_at : (lines : List (List (List ℕ))) (k : ℕ) → k < length lines → IsEmpty (line_rules lines) → IsLine lines (line_at lines k)
+kept_at lines zero h empty = λ d s. absurd (let n = heading_none (line_at lines 0) (first_heading (line_at lines 0) (alone_none (take 0 lines) lines 1 1 (line_at lines 0) (line_none lines 0 1 h empty))) in cc)
+kept_at lines (suc k) h empty = λ d s. line_kept lines (suc k) d (omega arith) h empty s
+
+all_at : (P : List (List ℕ) → Type 0) (lines : List (List (List ℕ))) → ((k : ℕ) → k < length lines → P (line_at lines k)) → AllByRecursion P lines
+all_at P [] f = tt
+all_at P (fields ∷ lines) f = (f 0 (omega arith), all_at P lines (λ k h. f (suc k) (omega arith)))
+
+pub all_kept : (lines : List (List (List ℕ))) → IsEmpty (line_rules lines) → AllByRecursion (IsLine lines) lines
+all_kept lines empty = all_at (IsLine lines) lines (λ k h. kept_at lines k h empty)
+
+pub le_of : (x y : ℤ) → int_le x y ≡ true → x ≤ℤ y
+le_of x y h = grind (arith, ints)
+
+-- a number that is spelt, and not outside its limits, lies within them
+within_of : (l : NumberLimits) (r : Result ℤ NumberFault) → is_spelt r ≡ true → is_outside l r ≡ false → IsWithin l.least l.most (number_or_zero r)
+within_of l (Ok x) s o =
+    let t : (int_le l.least x && int_le x l.most) ≡ true = not_not _ o in
+    record { low = le_of l.least x (and_left (int_le l.least x) (int_le x l.most) t); high = le_of x l.most (and_right (int_le l.least x) (int_le x l.most) t) }
+within_of l (Err Spelling) s o = absurd (cc)
+within_of l (Err Places) s o = absurd (cc)
+within_of l (Err Large) s o = absurd (cc)
+
+-- a number that breaks no rule
+pub in_limits : (quantity : Quantity) (text : List ℕ) → breaks_number quantity text 4 ≡ false → breaks_number quantity text 5 ≡ false → IsWithin (limits quantity).least (limits quantity).most (amount quantity text)
+unfolding breaks_number amount
+in_limits quantity text f g =
+    within_of (limits quantity) (quantity_in quantity text) (not_not (is_spelt (quantity_in quantity text)) (or_left (not (is_spelt (quantity_in quantity text))) false f)) g
+
+number_kept : (quantity : Quantity) (text : List ℕ) → ((number : ℕ) → breaks_field (Number quantity) text number ≡ false) → IsWithin (limits quantity).least (limits quantity).most (amount quantity text)
+unfolding breaks_field
+number_kept quantity text f = in_limits quantity text (f 4) (f 5)
+
+-- a field that is a number
+pub field_kept : (lines : List (List (List ℕ))) (d : Directive) (fields : List (List ℕ)) (k : ℕ) (quantity : Quantity) → IsKept lines d fields → 1 ≤ k → k < length fields → field_kind d k ≡ Number quantity
+    → IsWithin (limits quantity).least (limits quantity).most (amount quantity (field fields k))
+field_kept lines d fields k quantity h l m e = number_kept quantity (field fields k) (λ number. let f = h.each k number l m in rw e at f)
+
+-- a number between two limits of one size
+pub size_within : (most : ℕ) (x : ℤ) → IsWithin (neg_ℤ (pos most)) (pos most) x → unsigned_abs x ≤ most
+size_within most x h = omega (arith, ints)

@@ -1,0 +1,74 @@
+-- The verdict on a text: its refusal is that of the first pass that has one, and there is none where no pass has one.
+use Rattle.std.proofs.Common.{ℕ, ◌+◌, ◌<◌, ◌≤◌, ◌≡◌, nat_lt, Bool, true, false, cond, Option, Some, None, Result, Ok, Err, IfSome, IfErr, List, length, ap, sym, subst, ◌∙◌, refl, arith}
+use Rattle.std.specs.List.{range_with_len}
+use Rattle.std.specs.Result.{IsErrAnd}
+use Rattle.std.proofs.lemmas.Bool.{lt-ltb, le-ltb}
+use Rattle.case_model.specs.declared.cases.Case.{Case}
+use Rattle.case_model.specs.declared.meshes.Mesh.{Mesh}
+use Rattle.case_model.specs.Division.{mesh_of}
+use Rattle.case_model.specs.Limits.{IsRead}
+use Rattle.case_model.specs.Mesh.{IsMesh, IsNumbered}
+use Rattle.case_model.specs.Refusals.{passes}
+use Rattle.case_model.specs.Sets.{IsEmpty, AreEmpty, IsFirst}
+use Rattle.case_model.specs.Search.{Refusal, first_of}
+use Rattle.case_model.specs.SearchLaws.{FirstOrNone, first_is, first_found, first_none}
+use Rattle.reaches.specs.declared.division.CaseFault.{CaseFault}
+use Rattle.reaches.specs.declared.division.CaseFault.TheVariants.{Refused, Memory}
+use Rattle.case_rules.specs.Said.{lines_of}
+use Rattle.case_rules.specs.Among.{line_rules}
+use Rattle.case_rules.specs.Counts.{count_rules}
+use Rattle.netfile.specs.Accepted.{IsAccepted}
+use Rattle.netfile.specs.Built.{pipes_of, case_of}
+use Rattle.netfile.specs.Verdict.{all_passes, rule_numbers, refusal_of, judged, too_long, verdict, refusal_in}
+use Rattle.netfile.proofs.Bounds.{rising, all_bounded}
+use Rattle.netfile.proofs.PartCounts.{some_pipe_in}
+use Rattle.netfile.proofs.Readable.{is_read}
+
+-- the refusal of lines against their passes
+pub refusal_only : (lines : List (List (List ℕ))) (line number : ℕ) → IsFirst (all_passes lines) line number → refusal_of lines ≡ Some (record { number = number; line = line })
+unfolding refusal_of
+refusal_only lines line number f = first_found (all_passes lines) rule_numbers (length lines + 2) line number rising (all_bounded lines) f
+
+pub refusal_empty : (lines : List (List (List ℕ))) → AreEmpty (all_passes lines) → refusal_of lines ≡ None
+unfolding refusal_of
+refusal_empty lines e = first_none (all_passes lines) rule_numbers (length lines + 2) rising (all_bounded lines) e
+
+pub refusal_first : (lines : List (List (List ℕ))) → FirstOrNone (all_passes lines) (refusal_of lines)
+unfolding refusal_of
+refusal_first lines = first_is (all_passes lines) rule_numbers (length lines + 2) rising (all_bounded lines)
+
+-- the verdict on a text of no more than so many bytes
+short_verdict : (bytes : List ℕ) (o : Option Refusal) → length bytes ≤ 8_388_608 → refusal_of (lines_of bytes) ≡ o → verdict bytes ≡ judged (case_of (lines_of bytes)) o
+unfolding verdict
+short_verdict bytes o h e = let n : nat_lt 8_388_608 (length bytes) ≡ false = le-ltb 8_388_608 (length bytes) h in rw (n, e) refl
+
+pub long_refused : (bytes : List ℕ) → 8_388_608 < length bytes → verdict bytes ≡ Err too_long
+unfolding verdict
+long_refused bytes h = let n : nat_lt 8_388_608 (length bytes) ≡ true = lt-ltb 8_388_608 (length bytes) h in rw n refl
+
+pub refused : (bytes : List ℕ) (fault : CaseFault) → length bytes ≤ 8_388_608 → ((number line : ℕ) → fault ≡ Refused number line → IsFirst (all_passes (lines_of bytes)) line number) → IfSome (refusal_in fault) (λ r. verdict bytes ≡ Err r)
+refused bytes (Refused number line) h f = short_verdict bytes (Some (record { number = number; line = line })) h (refusal_only (lines_of bytes) line number (f number line refl))
+refused bytes Memory h f = tt
+
+pub accepted : (bytes : List ℕ) → length bytes ≤ 8_388_608 → IsEmpty (line_rules (lines_of bytes)) → IsEmpty (count_rules (lines_of bytes)) → AreEmpty (passes (case_of (lines_of bytes)))
+    → verdict bytes ≡ Ok (case_of (lines_of bytes), mesh_of (case_of (lines_of bytes)))
+accepted bytes h kept counts divided = short_verdict bytes None h (refusal_empty (lines_of bytes) (kept, (counts, divided)))
+
+some_pipe : (lines : List (List (List ℕ))) → IsEmpty (count_rules lines) → 0 < length (case_of lines).pipes
+unfolding case_of
+some_pipe lines counts = some_pipe_in lines counts
+
+pub fulfilled : (lines : List (List (List ℕ))) (mesh : Mesh) → IsEmpty (line_rules lines) → IsEmpty (count_rules lines) → AreEmpty (passes (case_of lines)) → mesh ≡ mesh_of (case_of lines) → IsMesh mesh → IsNumbered mesh → IsAccepted (case_of lines) mesh
+fulfilled lines mesh kept counts empty divided good numbered = record {
+  read = is_read lines kept counts;
+  divided = divided;
+  kept = empty;
+  good = good;
+  numbered = numbered;
+  some = some_pipe lines counts;
+}
+
+-- an error that is passed on
+pub passed_on : {X : Type 0} (r : Result X CaseFault) (fault : CaseFault) (P : CaseFault → Type 0) → IsErrAnd r (λ e. e ≡ fault) → P fault → IfErr r P
+passed_on (Ok x) fault P h p = tt
+passed_on (Err e) fault P h p = subst P (sym h) p

@@ -1,0 +1,17 @@
+pub mod Amounts
+pub mod Bounds
+pub mod FieldLimits
+pub mod Found
+pub mod Joins
+pub mod Judged
+pub mod Kept
+pub mod Naming
+pub mod NodeLimits
+pub mod PartCounts
+pub mod PipeLimits
+pub mod Placed
+pub mod Readable
+pub mod SingleLimits
+pub mod Spots
+pub mod TableLimits
+pub mod TableNames

@@ -1,0 +1,14 @@
+use Rattle.std.proofs.Common.{ℕ, take, ap, ◌∙◌, sym}
+use Rattle.std.specs.List.{position_from}
+use Rattle.std.specs.Str.{bytes_eq}
+use Rattle.case_model.specs.declared.cases.Pipe.{Pipe}
+use Rattle.netfile.specs.Indices.{or_index}
+use Rattle.netfile.proofs.Placed.{place_more}
+use Rattle.netfile.proofs.indices.pipe_indices.Goals as goal
+
+pub loop-k-preserved : goal.loop-k-preserved
+loop-k-preserved c = λ q.
+    let before = position_from (λ (t : Pipe). bytes_eq t.name q.now) 0 (take c.loop-k.k c.args.pipes.now) in
+    c.in_ok-add_index.ensures q
+    ∙ rw (c.loop-k.invariant q, c.as_bytes.ensures.bytes) (ap (λ (t : Pipe). or_index before (bytes_eq t.name q.now) c.loop-k.k) c.index-pipes-k.is)
+    ∙ sym (place_more (λ (t : Pipe). bytes_eq t.name q.now) c.args.pipes.now c.loop-k.k c.index-pipes-k.result c.loop-k-test.true)

@@ -1,0 +1,5 @@
+pub mod Accepted
+pub mod Built
+pub mod Indices
+pub mod Named
+pub mod Verdict

@@ -1,0 +1,46 @@
+-- What a case text means: a case and its mesh, or its refusal.
+use Rattle.std.specs.Prelude.{ℕ, ◌+◌, nat_lt, Option, Some, None, Result, Ok, Err, if◌then◌else◌, List, [], ◌∷◌, length}
+use Rattle.std.specs.List.{range_with_len}
+use Rattle.case_model.specs.declared.cases.Case.{Case}
+use Rattle.case_model.specs.declared.meshes.Mesh.{Mesh}
+use Rattle.case_model.specs.Sets.{Rules}
+use Rattle.case_model.specs.Search.{Refusal, first_of}
+use Rattle.case_model.specs.Division.{mesh_of}
+use Rattle.case_model.specs.Refusals.{passes}
+use Rattle.reaches.specs.declared.division.CaseFault.{CaseFault}
+use Rattle.reaches.specs.declared.division.CaseFault.TheVariants.{Refused, Memory}
+use Rattle.case_rules.specs.Said.{lines_of}
+use Rattle.case_rules.specs.Among.{line_rules}
+use Rattle.case_rules.specs.Counts.{count_rules}
+use Rattle.netfile.specs.Built.{case_of}
+
+-- the four passes: the lines, the counts, and those of the division of the case that the lines say
+abbrev pub all_passes : List (List (List ℕ)) → List Rules
+all_passes lines = line_rules lines ∷ count_rules lines ∷ passes (case_of lines)
+
+-- the numbers of the rules
+abbrev pub rule_numbers : List ℕ
+rule_numbers = 1 ∷ 2 ∷ 3 ∷ 4 ∷ 5 ∷ 6 ∷ 7 ∷ 8 ∷ 9 ∷ 10 ∷ 11 ∷ 12 ∷ 13 ∷ 14 ∷ 15 ∷ 16 ∷ []
+
+-- the refusal of lines, if any: the least pair of the first pass that has one
+unfoldable pub refusal_of : List (List (List ℕ)) → Option Refusal
+refusal_of lines = first_of (all_passes lines) rule_numbers (range_with_len 0 (length lines + 2))
+
+abbrev pub judged : Case → Option Refusal → Result (Case × Mesh) Refusal
+judged case (Some refusal) = Err refusal
+judged case None = Ok (case, mesh_of case)
+
+-- a text over 8 MiB is refused as too long, on no line
+abbrev pub too_long : Refusal
+too_long = record { number = 10; line = 0 }
+
+-- what a text means
+unfoldable pub verdict : List ℕ → Result (Case × Mesh) Refusal
+verdict bytes =
+    if nat_lt 8_388_608 (length bytes) then Err too_long
+    else judged (case_of (lines_of bytes)) (refusal_of (lines_of bytes))
+
+-- the refusal that a fault tells, if any
+abbrev pub refusal_in : CaseFault → Option Refusal
+refusal_in (Refused number line) = Some (record { number = number; line = line })
+refusal_in Memory = None
