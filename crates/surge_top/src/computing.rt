@@ -77,8 +77,8 @@ fn is_computed(kind: &NodeKind) -> bool
     }
 }
 
-// How large an accepted case is at most.
-fn sizes(case: &Case, mesh: &Mesh)
+/// How large an accepted case is at most.
+pub(crate) fn sizes(case: &Case, mesh: &Mesh)
     requires { IsAccepted case.now mesh.now }
     ensures { IsSmall case.now mesh.now }
 {

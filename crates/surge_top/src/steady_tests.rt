@@ -1,4 +1,5 @@
 //! A pipe with friction that is run until its flow is steady.
+use crate::computing::sizes;
 use case_model::Point;
 use netfile::read_case;
 use row_steps::{Outcome, compute};
@@ -23,6 +24,7 @@ fn flow_settles_at_that_of_darcy_and_weisbach(rt: HostRuntime) {
     let Ok((case, mesh)) = accepted else {
         panic!(rt; "the case was not accepted");
     };
+    sizes(&case, &mesh);
     let law = ShortLaw::over(&case, &mesh);
     let Ok(Outcome::Heads(row)) = compute(rt.alloc(), &law, &mesh, case.steps) else {
         panic!(rt; "the case was not computed");
