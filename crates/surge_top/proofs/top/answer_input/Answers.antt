@@ -1,4 +1,4 @@
-use Rattle.std.proofs.Common.{◌≡◌, ◌⊎◌, rules}
+use Rattle.std.proofs.Common.{◌≡◌, ◌⊎◌}
 use Rattle.surge_io.specs.Bytes.{Appends, AppendsFront}
 use Rattle.surge_io.specs.Faults.{Rose}
 use Rattle.netfile.specs.Verdict.{verdict}
