@@ -324,7 +324,11 @@ pub all_bounded : (lines : List (List (List ℕ))) → AreBounded rule_numbers (
 all_bounded lines =
     let count = length lines + 2 in (
       bounded count (line_rules lines) (lines_listed lines),
-      (bounded count (count_rules lines) (counts_listed lines),
-      (bounded count (part_rules (case_of lines)) (parts_listed lines),
-      (bounded count (size_rules (case_of lines)) (λ line n h. size_listed (case_of lines) count line n (omega arith) h), tt))),
+      (
+        bounded count (count_rules lines) (counts_listed lines),
+        (
+          bounded count (part_rules (case_of lines)) (parts_listed lines),
+          (bounded count (size_rules (case_of lines)) (λ line n h. size_listed (case_of lines) count line n (omega arith) h), tt),
+        ),
+      ),
     )
