@@ -1,5 +1,5 @@
 -- The rules stand on lines of the text or on line 0 or 1, and have the numbers that the search goes through.
-use Rattle.std.proofs.Common.{ℕ, zero, suc, ◌+◌, ◌-◌, ◌<◌, ◌≤◌, ◌≡◌, ◌⊎◌, inl, inr, ◌==◌, ◌&&◌, ◌||◌, not, nat_lt, nat_le, Bool, true, false, IsTrue, cond, ℤ, Option, Some, None, List, [], ◌∷◌, length, take, get_or, ap, sym, subst, ◌∙◌, refl, arith}
+use Rattle.std.proofs.Common.{ℕ, zero, suc, ◌+◌, ◌-◌, ◌<◌, ◌≤◌, ◌≡◌, inl, inr, ◌==◌, ◌&&◌, ◌||◌, not, nat_lt, nat_le, Bool, true, false, IsTrue, cond, ℤ, Option, Some, None, List, [], ◌∷◌, length, take, get_or, ap, sym, subst, refl, arith}
 use Rattle.std.specs.List.{list_any, list_all, range_with_len, cons_option}
 use Rattle.std.proofs.lemmas.Bool.{eqb-true}
 use Rattle.std.proofs.lemmas.Bool.Decides.{nat_tests}
@@ -14,7 +14,7 @@ use Rattle.case_model.specs.SearchLaws.{IsOneOf, IsRising, IsBounded, AreBounded
 use Rattle.case_model.specs.Parts.{pipe_at, node_at, probe_at, no_pipe, no_node, no_probe}
 use Rattle.case_model.specs.Division.{is_count, is_adjusted, has_coefficients, node_ends}
 use Rattle.case_model.specs.Formulas.{reach_count}
-use Rattle.case_model.specs.Refusals.{ends_suit, exceeds, breaks_pipe, breaks_node, is_off, pipe_rules, node_rules, probe_rules, part_rules, is_too_large, size_rules, passes}
+use Rattle.case_model.specs.Refusals.{ends_suit, exceeds, breaks_pipe, breaks_node, is_off, pipe_rules, node_rules, probe_rules, part_rules, is_too_large, size_rules}
 use Rattle.case_lines.specs.declared.words.Directive.{Directive}
 use Rattle.case_lines.specs.declared.words.Directive.TheVariants.{OfSingle, OfTable, OfNode, OfPipe, OfProbe, OfWatch}
 use Rattle.case_lines.specs.declared.quantities.Quantity.{Quantity}
@@ -28,7 +28,7 @@ use Rattle.case_lines.specs.Alone.{breaks_name, breaks_reference, breaks_number,
 use Rattle.case_rules.specs.Said.{line_at, said, is_definition, defines, is_single, is_single_of}
 use Rattle.case_rules.specs.Among.{uses_unknown, breaks_counted as breaks_others, breaks_among, breaks_line, line_rules}
 use Rattle.case_rules.specs.Counts.{is_incomplete, is_too_large as is_too_many, count_rules}
-use Rattle.netfile.specs.Built.{node_by, node_said, nodes_from, nodes_of, pipe_of, pipe_by, pipe_said, pipes_from, pipes_of, probe_by, probe_said, probes_from, probes_of, tables_of, case_of}
+use Rattle.netfile.specs.Built.{node_by, node_said, nodes_from, nodes_of, pipe_of, pipe_by, pipe_said, pipes_from, pipes_of, probe_by, probe_said, probes_from, tables_of, case_of}
 use Rattle.netfile.specs.Verdict.{rule_numbers, all_passes}
 
 -- the number of a rule
@@ -324,7 +324,11 @@ pub all_bounded : (lines : List (List (List ℕ))) → AreBounded rule_numbers (
 all_bounded lines =
     let count = length lines + 2 in (
       bounded count (line_rules lines) (lines_listed lines),
-      (bounded count (count_rules lines) (counts_listed lines),
-      (bounded count (part_rules (case_of lines)) (parts_listed lines),
-      (bounded count (size_rules (case_of lines)) (λ line n h. size_listed (case_of lines) count line n (omega arith) h), tt))),
+      (
+        bounded count (count_rules lines) (counts_listed lines),
+        (
+          bounded count (part_rules (case_of lines)) (parts_listed lines),
+          (bounded count (size_rules (case_of lines)) (λ line n h. size_listed (case_of lines) count line n (omega arith) h), tt),
+        ),
+      ),
     )

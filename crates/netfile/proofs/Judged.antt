@@ -1,16 +1,13 @@
 -- The verdict on a text: its refusal is that of the first pass that has one, and there is none where no pass has one.
-use Rattle.std.proofs.Common.{ℕ, ◌+◌, ◌<◌, ◌≤◌, ◌≡◌, nat_lt, Bool, true, false, cond, Option, Some, None, Result, Ok, Err, IfSome, IfErr, List, length, ap, sym, subst, ◌∙◌, refl, arith}
-use Rattle.std.specs.List.{range_with_len}
+use Rattle.std.proofs.Common.{ℕ, ◌+◌, ◌<◌, ◌≤◌, ◌≡◌, nat_lt, true, false, Option, Some, None, Result, Ok, Err, IfSome, IfErr, List, length, sym, subst, refl}
 use Rattle.std.specs.Result.{IsErrAnd}
 use Rattle.std.proofs.lemmas.Bool.{lt-ltb, le-ltb}
-use Rattle.case_model.specs.declared.cases.Case.{Case}
 use Rattle.case_model.specs.declared.meshes.Mesh.{Mesh}
 use Rattle.case_model.specs.Division.{mesh_of}
-use Rattle.case_model.specs.Limits.{IsRead}
 use Rattle.case_model.specs.Mesh.{IsMesh, IsNumbered}
 use Rattle.case_model.specs.Refusals.{passes}
 use Rattle.case_model.specs.Sets.{IsEmpty, AreEmpty, IsFirst}
-use Rattle.case_model.specs.Search.{Refusal, first_of}
+use Rattle.case_model.specs.Search.{Refusal}
 use Rattle.case_model.specs.SearchLaws.{FirstOrNone, first_is, first_found, first_none}
 use Rattle.reaches.specs.declared.division.CaseFault.{CaseFault}
 use Rattle.reaches.specs.declared.division.CaseFault.TheVariants.{Refused, Memory}
@@ -18,7 +15,7 @@ use Rattle.case_rules.specs.Said.{lines_of}
 use Rattle.case_rules.specs.Among.{line_rules}
 use Rattle.case_rules.specs.Counts.{count_rules}
 use Rattle.netfile.specs.Accepted.{IsAccepted}
-use Rattle.netfile.specs.Built.{pipes_of, case_of}
+use Rattle.netfile.specs.Built.{case_of}
 use Rattle.netfile.specs.Verdict.{all_passes, rule_numbers, refusal_of, judged, too_long, verdict, refusal_in}
 use Rattle.netfile.proofs.Bounds.{rising, all_bounded}
 use Rattle.netfile.proofs.PartCounts.{some_pipe_in}

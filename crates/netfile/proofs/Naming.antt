@@ -1,5 +1,5 @@
 -- Of lines that break no rule each new name has at most 32 bytes, and each place is on a mesh of accepted size.
-use Rattle.std.proofs.Common.{ℕ, suc, ◌<◌, ◌≤◌, ◌≡◌, ◌==◌, ◌&&◌, nat_lt, Bool, true, false, ℤ, pos, unsigned_abs, Option, Some, None, List, [], ◌∷◌, length, refl, arith}
+use Rattle.std.proofs.Common.{ℕ, suc, ◌<◌, ◌≤◌, ◌≡◌, ◌&&◌, nat_lt, true, false, ℤ, pos, unsigned_abs, Option, Some, None, List, [], ◌∷◌, length, refl, arith}
 use Rattle.std.proofs.lemmas.Int.{ints}
 use Rattle.std.specs.List.{AllByRecursion}
 use Rattle.std.proofs.lemmas.Bool.{eqb-true}

@@ -1,10 +1,9 @@
 -- The case that lines say: their values in file order, with names resolved and defaults filled in.
-use Rattle.std.specs.Prelude.{ℕ, ◌+◌, Bool, ℤ, pos, neg_ℤ, unsigned_abs, Option, Some, None, if◌then◌else◌, unwrap_or, List, [], ◌∷◌, codes}
+use Rattle.std.specs.Prelude.{ℕ, ◌+◌, ℤ, pos, neg_ℤ, unsigned_abs, Option, Some, None, if◌then◌else◌, unwrap_or, List, [], ◌∷◌, codes}
 use Rattle.std.specs.List.{find, position_from, cons_option}
 use Rattle.std.specs.Str.{bytes_eq}
 use Rattle.case_model.specs.declared.cases.Case.{Case}
 use Rattle.case_model.specs.declared.cases.Table.{Table}
-use Rattle.case_model.specs.declared.cases.TableKind.{TableKind}
 use Rattle.case_model.specs.declared.cases.Value.{Value}
 use Rattle.case_model.specs.declared.cases.Value.TheVariants.{Fixed, ByTable}
 use Rattle.case_model.specs.declared.cases.Node.{Node}

@@ -13,3 +13,6 @@ mod tables;
 
 pub use reading::{MOST_BYTES, read_case};
 pub use refusals::refusals_are_first;
+
+#[cfg(test)]
+mod tests;

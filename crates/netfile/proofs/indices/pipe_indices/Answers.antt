@@ -1,4 +1,4 @@
-use Rattle.std.proofs.Common.{ℕ, take, ap, ◌∙◌, sym}
+use Rattle.std.proofs.Common.{take, ap, ◌∙◌, sym}
 use Rattle.std.specs.List.{position_from}
 use Rattle.std.specs.Str.{bytes_eq}
 use Rattle.case_model.specs.declared.cases.Pipe.{Pipe}

@@ -1,6 +1,5 @@
-use Rattle.std.proofs.Common.{◌≡◌, ℕ, Ok, Err, subst, sym, ap, ◌∙◌, inl, inr, arith}
+use Rattle.std.proofs.Common.{◌≡◌, Err, subst, sym, ap, ◌∙◌, inl, inr, arith}
 use Rattle.case_model.specs.declared.cases.Case.{Case}
-use Rattle.case_model.specs.declared.meshes.Mesh.{Mesh}
 use Rattle.case_model.specs.Sets.{AreEmpty, IsFirst}
 use Rattle.case_model.specs.Division.{mesh_of}
 use Rattle.case_model.specs.Refusals.{passes}
@@ -43,8 +42,13 @@ returns-in_err-mesh-clause-refused c =
     let lines = lines_of c.args.bytes.now in
     let fault = c.in_err-mesh.field-0.0 in
     passed_on _ fault _ c.from_residual-in_err-mesh.ensures.1
-    (refused c.args.bytes.now fault (omega arith) (λ number line e. inr (c.in_ok-judge_lines.ensures.kept, inr (c.in_ok-judge_counts.ensures.kept,
-    subst (λ (x : Case). IsFirst (passes x) line number) c.in-Ok.ensures (c.in_err-mesh.ensures.refused number line (ap Err e))))))
+    (refused c.args.bytes.now fault (omega arith) (λ number line e. inr (
+      c.in_ok-judge_lines.ensures.kept,
+      inr (
+        c.in_ok-judge_counts.ensures.kept,
+        subst (λ (x : Case). IsFirst (passes x) line number) c.in-Ok.ensures (c.in_err-mesh.ensures.refused number line (ap Err e)),
+      ),
+    )))
 
 pub returns-clause-accepted : goal.returns-clause-accepted
 returns-clause-accepted c =

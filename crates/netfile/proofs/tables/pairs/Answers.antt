@@ -1,4 +1,4 @@
-use Rattle.std.proofs.Common.{ℕ, List, map, ap, sym, ◌∙◌, ◌++◌, ◌∷◌, [], ℤ, arith, rules}
+use Rattle.std.proofs.Common.{map, sym, arith}
 use Rattle.std.proofs.lemmas.List.FromFn.{map-range_with_len_more}
 use Rattle.case_lines.specs.Tables.{pair_at}
 use Rattle.netfile.proofs.tables.pairs.Goals as goal
