@@ -85,7 +85,7 @@ alone_none : (before lines : List (List (List ℕ))) (line number : ℕ) (fields
 unfolding breaks_line
 alone_none before lines line number fields h = or_left (breaks_alone line fields number) _ h
 
-among_none : (before lines : List (List (List ℕ))) (line number : ℕ) (fields : List (List ℕ)) → (line == 1) ≡ false → breaks_line before lines line fields number ≡ false → breaks_among before lines (said fields) fields number ≡ false
+pub among_none : (before lines : List (List (List ℕ))) (line number : ℕ) (fields : List (List ℕ)) → (line == 1) ≡ false → breaks_line before lines line fields number ≡ false → breaks_among before lines (said fields) fields number ≡ false
 unfolding breaks_line
 among_none before lines line number fields e h =
     let r : (not (line == 1) && breaks_among before lines (said fields) fields number) ≡ false = or_right (breaks_alone line fields number) _ h in
@@ -180,10 +180,14 @@ line_kept lines k d l h empty s =
       known = λ j a b. unknown_none (take k lines) lines fields d j c s (among_none (take k lines) lines (k + 1) 7 fields e (line_none lines k 7 h empty)) a b;
     }
 
+-- a line with a directive is not the first
+pub not_first : (lines : List (List (List ℕ))) (k : ℕ) (d : Directive) → k < length lines → IsEmpty (line_rules lines) → said (line_at lines k) ≡ Some d → 1 ≤ k
+not_first lines zero d h empty s = absurd (let n = heading_none (line_at lines 0) (first_heading (line_at lines 0) (alone_none (take 0 lines) lines 1 1 (line_at lines 0) (line_none lines 0 1 h empty))) in cc)
+not_first lines (suc k) d h empty s = omega arith
+
 -- each line of a text that breaks no rule of lines
 pub kept_at : (lines : List (List (List ℕ))) (k : ℕ) → k < length lines → IsEmpty (line_rules lines) → IsLine lines (line_at lines k)
-kept_at lines zero h empty = λ d s. absurd (let n = heading_none (line_at lines 0) (first_heading (line_at lines 0) (alone_none (take 0 lines) lines 1 1 (line_at lines 0) (line_none lines 0 1 h empty))) in cc)
-kept_at lines (suc k) h empty = λ d s. line_kept lines (suc k) d (omega arith) h empty s
+kept_at lines k h empty = λ d s. line_kept lines k d (not_first lines k d h empty s) h empty s
 
 all_at : (P : List (List ℕ) → Type 0) (lines : List (List (List ℕ))) → ((k : ℕ) → k < length lines → P (line_at lines k)) → AllByRecursion P lines
 all_at P [] f = tt

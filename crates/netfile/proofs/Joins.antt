@@ -19,7 +19,7 @@ use Rattle.case_rules.specs.Said.{line_at, said, defines_part}
 use Rattle.case_rules.specs.Among.{is_unknown, line_rules}
 use Rattle.netfile.specs.Built.{node_index, node_by, node_said, nodes_from, nodes_of, tables_of, pipe_of, pipe_by, pipe_said, pipes_from, pipes_of}
 use Rattle.netfile.proofs.Found.{found, all_cons, any_cons, or_left, one_of}
-use Rattle.netfile.proofs.Kept.{IsKept, line_kept, not_not}
+use Rattle.netfile.proofs.FieldLimits.{IsKept, kept_at, not_not}
 use Rattle.netfile.proofs.TableNames.{defines_by, numbered_by, no_number, no_table_number, has_number_of, has_name_of}
 
 -- whether a node has this name
@@ -76,7 +76,7 @@ pipe_length n h = grind (arith, nat_tests)
 joined : (lines : List (List (List ℕ))) (at : ℕ) (fields : List (List ℕ)) → IsKept lines OfPipe fields → IsJoined (length (nodes_of lines)) (pipe_of (nodes_of lines) at fields)
 unfolding pipe_of field_kind
 joined lines at fields k =
-    let n = pipe_length (length fields) k.count in record {
+    let n = pipe_length (length fields) k.counted in record {
       first = node_named lines (field fields 2) (k.known 2 (omega arith) (omega (arith, n)));
       last = node_named lines (field fields 3) (k.known 3 (omega arith) (omega (arith, n)));
     }
@@ -85,4 +85,4 @@ joined lines at fields k =
 pub joins_in : (lines : List (List (List ℕ))) → IsEmpty (line_rules lines) → All (IsJoined (length (nodes_of lines))) (pipes_of lines)
 unfolding pipe_said
 joins_in lines empty = All-from_recursion (IsJoined (length (nodes_of lines))) (pipes_of lines) (all_pipes (IsJoined (length (nodes_of lines))) (nodes_of lines) 1 lines
-    (λ k at h. by_pipe (IsJoined (length (nodes_of lines))) (nodes_of lines) (said (line_at lines k)) at (line_at lines k) (λ s. joined lines at (line_at lines k) (line_kept lines empty k OfPipe h s))))
+    (λ k at h. by_pipe (IsJoined (length (nodes_of lines))) (nodes_of lines) (said (line_at lines k)) at (line_at lines k) (λ s. joined lines at (line_at lines k) (kept_at lines k h empty OfPipe s))))

@@ -4,8 +4,8 @@ pub mod FieldLimits
 pub mod Found
 pub mod Joins
 pub mod Judged
-pub mod Kept
 pub mod Naming
+pub mod NamesOnce
 pub mod NodeLimits
 pub mod PartCounts
 pub mod PipeLimits

@@ -22,8 +22,8 @@ use Rattle.case_rules.specs.Said.{line_at, said}
 use Rattle.case_rules.specs.Among.{line_rules}
 use Rattle.netfile.specs.Built.{kind_said, value_said, node_by, node_said, nodes_from, nodes_of, tables_of}
 use Rattle.netfile.proofs.Found.{all_cons}
-use Rattle.netfile.proofs.Kept.{IsKept, line_kept}
-use Rattle.netfile.proofs.Amounts.{IsFieldKept, number_kept, reference_kept, value_kept, sized}
+use Rattle.netfile.proofs.FieldLimits.{IsKept, kept_at, size_within}
+use Rattle.netfile.proofs.Amounts.{IsFieldKept, number_kept, reference_kept, value_kept}
 
 -- what holds of the node of each line holds of all nodes
 pub all_nodes : (P : Node → Type 0) (tables : List Table) (line : ℕ) (lines : List (List (List ℕ))) → ((k at : ℕ) → k < length lines → IfSome (node_said tables at (line_at lines k)) P) → AllByRecursion P (nodes_from tables line lines)
@@ -49,14 +49,14 @@ node_length node n h = grind (arith, nat_tests)
 -- what a field of a node line keeps
 at_node : (lines : List (List (List ℕ))) (node : NodeWord) (fields : List (List ℕ)) → IsKept lines (OfNode node) fields → (j : ℕ) (kind : FieldKind) → field_kind (OfNode node) j ≡ kind → 1 ≤ j → j < length (node_fields node) + 3 → IsFieldKept lines kind (field fields j)
 at_node lines node fields k j kind e a b =
-    let n = node_length node (length fields) k.count in
+    let n = node_length node (length fields) k.counted in
     subst (λ (x : FieldKind). IsFieldKept lines x (field fields j)) e (record {
-      alone = λ number. k.alone number j a (omega (arith, n));
+      alone = λ number. k.each j number a (omega (arith, n));
       known = k.known j a (omega (arith, n));
     })
 
 head_kept : (lines : List (List (List ℕ))) (text : List ℕ) → IsFieldKept lines (Number Head) text → IsHead (amount Head text)
-head_kept lines text k = sized 100_000_000_000 (amount Head text) (number_kept lines Head text k)
+head_kept lines text k = size_within 100_000_000_000 (amount Head text) (number_kept lines Head text k)
 
 valve_kept : (lines : List (List (List ℕ))) (flow loss : List ℕ) → IsFieldKept lines (Number ValveFlow) flow → IsFieldKept lines (Number ValveLoss) loss → IsValve (amount ValveFlow flow) (amount ValveLoss loss)
 valve_kept lines flow loss k l = record { flow = number_kept lines ValveFlow flow k; loss = number_kept lines ValveLoss loss l }
@@ -68,9 +68,9 @@ opening_kept lines empty text k = value_kept lines empty (IsWithin (pos 0) (pos 
 node_kind : (lines : List (List (List ℕ))) → IsEmpty (line_rules lines) → (node : NodeWord) (f : List (List ℕ)) → IsKept lines (OfNode node) f → IsKind (tables_of lines) (kind_said (tables_of lines) node f)
 unfolding kind_said field_kind
 node_kind lines empty Reservoir f k =
-    value_kept lines empty IsHead Head Heads (field f 3) (at_node lines Reservoir f k 3 (Value Head Heads) refl (omega arith) (omega arith)) (sized 100_000_000_000 (amount Head (field f 3)))
+    value_kept lines empty IsHead Head Heads (field f 3) (at_node lines Reservoir f k 3 (Value Head Heads) refl (omega arith) (omega arith)) (size_within 100_000_000_000 (amount Head (field f 3)))
 node_kind lines empty Junction f k = (
-  value_kept lines empty IsFlow Flow Flows (field f 3) (at_node lines Junction f k 3 (Value Flow Flows) refl (omega arith) (omega arith)) (sized 1_000_000_000_000 (amount Flow (field f 3))),
+  value_kept lines empty IsFlow Flow Flows (field f 3) (at_node lines Junction f k 3 (Value Flow Flows) refl (omega arith) (omega arith)) (size_within 1_000_000_000_000 (amount Flow (field f 3))),
   head_kept lines (field f 4) (at_node lines Junction f k 4 (Number Head) refl (omega arith) (omega arith)),
 )
 node_kind lines empty Discharge f k = (
@@ -102,11 +102,11 @@ node_kind lines empty Vessel f k = (
 
 node_raised : (lines : List (List (List ℕ))) (node : NodeWord) (f : List (List ℕ)) → IsKept lines (OfNode node) f → unsigned_abs (amount Elevation (field f 2)) ≤ 10_000_000_000
 unfolding field_kind
-node_raised lines node f k = sized 10_000_000_000 (amount Elevation (field f 2)) (number_kept lines Elevation (field f 2) (at_node lines node f k 2 (Number Elevation) refl (omega arith) (omega arith)))
+node_raised lines node f k = size_within 10_000_000_000 (amount Elevation (field f 2)) (number_kept lines Elevation (field f 2) (at_node lines node f k 2 (Number Elevation) refl (omega arith) (omega arith)))
 
 -- the nodes of lines that break no rule
 pub nodes_in : (lines : List (List (List ℕ))) → IsEmpty (line_rules lines) → All (IsNode (tables_of lines)) (nodes_of lines)
 unfolding node_said
 nodes_in lines empty = All-from_recursion (IsNode (tables_of lines)) (nodes_of lines) (all_nodes (IsNode (tables_of lines)) (tables_of lines) 1 lines
     (λ k at h. by_node (IsNode (tables_of lines)) (tables_of lines) (said (line_at lines k)) at (line_at lines k)
-    (λ node s. let kept = line_kept lines empty k (OfNode node) h s in record { elevation = node_raised lines node (line_at lines k) kept; kind = node_kind lines empty node (line_at lines k) kept })))
+    (λ node s. let kept = kept_at lines k h empty (OfNode node) s in record { elevation = node_raised lines node (line_at lines k) kept; kind = node_kind lines empty node (line_at lines k) kept })))

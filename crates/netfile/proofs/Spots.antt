@@ -23,7 +23,7 @@ use Rattle.case_rules.specs.Said.{line_at, said, defines_part}
 use Rattle.case_rules.specs.Among.{is_unknown, line_rules}
 use Rattle.netfile.specs.Built.{node_index, nodes_of, pipe_index, pipe_of, pipe_by, pipe_said, pipes_from, pipes_of, probe_by, probe_said, probes_from, probes_of}
 use Rattle.netfile.proofs.Found.{found, all_cons, any_cons, or_left, one_of}
-use Rattle.netfile.proofs.Kept.{IsKept, line_kept, not_not}
+use Rattle.netfile.proofs.FieldLimits.{IsKept, kept_at, not_not}
 use Rattle.netfile.proofs.Amounts.{IsFieldKept, number_kept}
 use Rattle.netfile.proofs.Joins.{node_named}
 use Rattle.netfile.proofs.TableNames.{defines_by, numbered_by, no_number, no_table_number, has_number_of, has_name_of}
@@ -101,15 +101,15 @@ probe_kept : (lines : List (List (List ℕ))) (fields : List (List ℕ)) → IsK
     → IsSpot (length (pipes_of lines)) (length (nodes_of lines)) (OnPipe (pipe_index (pipes_of lines) (field fields 1)) (unsigned_abs (amount PipePlace (field fields 2))))
 unfolding field_kind
 probe_kept lines fields k =
-    let n = probe_length (length fields) k.count in (
+    let n = probe_length (length fields) k.counted in (
       pipe_named lines (field fields 1) (k.known 1 (omega arith) (omega (arith, n))),
-      place_kept lines (field fields 2) (record { alone = λ number. k.alone number 2 (omega arith) (omega (arith, n)); known = k.known 2 (omega arith) (omega (arith, n)) }),
+      place_kept lines (field fields 2) (record { alone = λ number. k.each 2 number (omega arith) (omega (arith, n)); known = k.known 2 (omega arith) (omega (arith, n)) }),
     )
 
 -- the node that a watch line names is there
 watch_kept : (lines : List (List (List ℕ))) (fields : List (List ℕ)) → IsKept lines OfWatch fields → node_index (nodes_of lines) (field fields 1) < length (nodes_of lines)
 unfolding field_kind
-watch_kept lines fields k = let n = watch_length (length fields) k.count in node_named lines (field fields 1) (k.known 1 (omega arith) (omega (arith, n)))
+watch_kept lines fields k = let n = watch_length (length fields) k.counted in node_named lines (field fields 1) (k.known 1 (omega arith) (omega (arith, n)))
 
 -- the probes and watches of lines that break no rule
 pub spots_in : (lines : List (List (List ℕ))) → IsEmpty (line_rules lines) → All (λ q. IsSpot (length (pipes_of lines)) (length (nodes_of lines)) q.at) (probes_of lines)
@@ -117,4 +117,4 @@ unfolding probe_said
 spots_in lines empty = All-from_recursion (λ (q : Probe). IsSpot (length (pipes_of lines)) (length (nodes_of lines)) q.at) (probes_of lines)
     (all_probes (λ (q : Probe). IsSpot (length (pipes_of lines)) (length (nodes_of lines)) q.at) (pipes_of lines) (nodes_of lines) 1 lines
     (λ k at h. by_probe (λ (q : Probe). IsSpot (length (pipes_of lines)) (length (nodes_of lines)) q.at) (pipes_of lines) (nodes_of lines) (said (line_at lines k)) at (line_at lines k)
-    (λ s. probe_kept lines (line_at lines k) (line_kept lines empty k OfProbe h s)) (λ s. watch_kept lines (line_at lines k) (line_kept lines empty k OfWatch h s))))
+    (λ s. probe_kept lines (line_at lines k) (kept_at lines k h empty OfProbe s)) (λ s. watch_kept lines (line_at lines k) (kept_at lines k h empty OfWatch s))))

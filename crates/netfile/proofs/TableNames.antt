@@ -24,10 +24,15 @@ use Rattle.case_rules.specs.Said.{line_at, said, named_by, has_number, part_numb
 use Rattle.case_rules.specs.Among.{line_rules}
 use Rattle.netfile.specs.Built.{table_index, table_by, table_said, tables_from, tables_of}
 use Rattle.netfile.proofs.Found.{IsFound, found, all_cons, any_cons, or_left, one_of}
-use Rattle.netfile.proofs.Kept.{line_kept, name_once, and_left, and_right, false_true}
+use Rattle.netfile.proofs.FieldLimits.{kept_at, and_left, and_right}
+use Rattle.netfile.proofs.NamesOnce.{name_once}
 
 eqb_same : (a b : ℕ) → (a == b) ≡ true → a ≡ b
 eqb_same a b h = grind (arith, nat_tests)
+
+false_true : (b : Bool) → b ≡ false → b ≡ true → ⊥
+false_true true h k = absurd (grind arith)
+false_true false h k = grind arith
 
 -- the number of a kind of tables tells the kind
 kind_numbered : ℕ → TableKind
@@ -193,7 +198,7 @@ own_kind name kind own fields s d =
 kind_at : (lines : List (List (List ℕ))) → IsEmpty (line_rules lines) → (name : List ℕ) (kind : TableKind) (j k : ℕ) → IsFound (defines_part (ATable kind) name) lines j → k < length lines → (own : TableKind) → said (line_at lines k) ≡ Some (OfTable own)
     → bytes_eq (field (line_at lines k) 1) name ≡ true → own ≡ kind
 kind_at lines empty name kind j k f h own s b =
-    let n = two_fields own (length (line_at lines k)) (line_kept lines empty k (OfTable own) h s).count in
+    let n = two_fields own (length (line_at lines k)) (kept_at lines k h empty (OfTable own) s).counted in
     let d = table_defines name own (line_at lines k) s n b in
     let e : j ≡ k = same_place lines empty name j k f.there h (defines_of (part_number (ATable kind)) name (line_at lines j) (f.passes [])) (defines_of (part_number (ATable own)) name (line_at lines k) d) in
     own_kind name kind own (line_at lines k) s (subst (λ (i : ℕ). defines_part (ATable kind) name (line_at lines i) ≡ true) e (f.passes []))
