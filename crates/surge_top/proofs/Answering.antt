@@ -15,7 +15,7 @@ use Rattle.surge_top.specs.declared.status.Status.TheVariants.{Done, Refused, Wo
 use Rattle.case_model.specs.declared.cases.Case.{Case}
 use Rattle.case_model.specs.declared.meshes.Mesh.{Mesh}
 use Rattle.case_model.specs.Search.{Refusal}
-use Rattle.short_law.specs.Laws.{meaning_of}
+use Rattle.scheme.specs.Laws.{meaning_of}
 
 verdict_long : (bytes : List ℕ) (other : List ℕ) → 8_388_608 < length bytes → 8_388_608 < length other → verdict bytes ≡ verdict other
 unfolding verdict

@@ -10,8 +10,7 @@ use Rattle.command_words.specs.declared.job.Command.TheVariants.{Check, Mesh as 
 use Rattle.command_words.specs.declared.job.Job.{Job}
 use Rattle.command_words.specs.CommandLine.{job_of}
 use Rattle.netfile.specs.Verdict.{verdict}
-use Rattle.short_law.specs.Laws.{meaning_of}
-use Rattle.surge_top.specs.Computed.{line_not_computed}
+use Rattle.scheme.specs.Laws.{meaning_of}
 use Rattle.surge_top.specs.Texts.{usage_text, accepted_text, refusal_text, range_text, heads_text}
 
 pub record Answer : Type 0 where
@@ -30,15 +29,10 @@ abbrev pub computed : Case → Mesh → Option (ℕ × ℕ) → Answer
 computed case mesh (Some fault) = record { text = range_text case mesh fault.0 fault.1; status = 3 }
 computed case mesh None = record { text = heads_text case (states (meaning_of case mesh) case.steps) (all_points (meaning_of case mesh) case.steps); status = 0 }
 
--- a case is computed where all its nodes can be, else the line of the first that cannot is refused
-abbrev pub computed_if : Case → Mesh → Option ℕ → Answer
-computed_if case mesh (Some line) = refused 90 line
-computed_if case mesh None = computed case mesh (first_fault (meaning_of case mesh) case.steps)
-
 -- what a command answers to an accepted case
 abbrev pub answer_case : Command → Case → Mesh → Answer
 answer_case Check case mesh = record { text = accepted_text; status = 0 }
-answer_case Rounds case mesh = computed_if case mesh (line_not_computed case.nodes)
+answer_case Rounds case mesh = computed case mesh (first_fault (meaning_of case mesh) case.steps)
 answer_case MeshCommand case mesh = usage
 answer_case Run case mesh = usage
 answer_case Drill case mesh = usage

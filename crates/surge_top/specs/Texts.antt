@@ -52,8 +52,7 @@ refusal_reason number =
     else if number == 13 then codes "wave speed over tolerance"
     else if number == 14 then codes "table order"
     else if number == 15 then codes "coefficient out of limits"
-    else if number == 16 then codes "probe off the mesh"
-    else codes "not read yet"
+    else codes "probe off the mesh"
 
 unfoldable pub refusal_text : ℕ → ℕ → List ℕ
 refusal_text number line = line_of (codes "refused" ∷ count_text number ∷ codes "line" ∷ count_text line ∷ refusal_reason number ∷ [])

@@ -3,7 +3,7 @@ use crate::computing::sizes;
 use case_model::Point;
 use netfile::read_case;
 use row_steps::{Outcome, compute};
-use short_law::ShortLaw;
+use scheme::Physics;
 
 // The flow upstream of a point, or none where it is Bad.
 fn flow(point: &Point) -> i64 {
@@ -25,7 +25,7 @@ fn flow_settles_at_that_of_darcy_and_weisbach(rt: HostRuntime) {
         panic!(rt; "the case was not accepted");
     };
     sizes(&case, &mesh);
-    let law = ShortLaw::over(&case, &mesh);
+    let law = Physics::over(&case, &mesh);
     let Ok(Outcome::Heads(row)) = compute(rt.alloc(), &law, &mesh, case.steps) else {
         panic!(rt; "the case was not computed");
     };

@@ -152,8 +152,7 @@ fn refusal_reason(number: u8) -> &'static [u8]
         13 => b"wave speed over tolerance",
         14 => b"table order",
         15 => b"coefficient out of limits",
-        16 => b"probe off the mesh",
-        _ => b"not read yet",
+        _ => b"probe off the mesh",
     }
 }
 

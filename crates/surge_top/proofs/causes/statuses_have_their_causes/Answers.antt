@@ -14,14 +14,10 @@ pub returns-clause-checked : goal.returns-clause-checked
 unfolding answer
 returns-clause-checked c = λ words bytes job case mesh w k v. rw (w, k, v) refl
 
-pub returns-clause-not_computed : goal.returns-clause-not_computed
-unfolding answer
-returns-clause-not_computed c = λ words bytes job case mesh line w k v n. rw (w, k, v, n) refl
-
 pub returns-clause-range : goal.returns-clause-range
 unfolding answer
-returns-clause-range c = λ words bytes job case mesh fault w k v n f. rw (w, k, v, n, f) refl
+returns-clause-range c = λ words bytes job case mesh fault w k v f. rw (w, k, v, f) refl
 
 pub returns-clause-done : goal.returns-clause-done
 unfolding answer
-returns-clause-done c = λ words bytes job case mesh w k v n f. rw (w, k, v, n, f) refl
+returns-clause-done c = λ words bytes job case mesh w k v f. rw (w, k, v, f) refl

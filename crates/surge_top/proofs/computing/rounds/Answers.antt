@@ -2,9 +2,9 @@ use Rattle.std.proofs.Common.{◌≡◌, ◌∙◌, ap, sym, length}
 use Rattle.case_model.specs.Meaning.{Meaning}
 use Rattle.case_model.specs.Rows.{states, all_points}
 use Rattle.case_model.specs.RowLaws.{length-states, length-all_points}
-use Rattle.short_law.specs.Laws.{meaning_of}
+use Rattle.scheme.specs.Laws.{meaning_of}
 use Rattle.surge_top.proofs.Answering.{mesh_fits}
-use Rattle.surge_top.proofs.computing.computed_heads.Goals as goal
+use Rattle.surge_top.proofs.computing.rounds.Goals as goal
 
 pub compute-requires-clause-mesh : goal.compute-requires-clause-mesh
 compute-requires-clause-mesh g c =

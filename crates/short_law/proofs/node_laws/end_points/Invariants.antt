@@ -1,5 +1,0 @@
-use Rattle.short_law.proofs.EndPoints.{PointedTo}
-use Rattle.short_law.proofs.node_laws.end_points.Given as goal
-
-abbrev pub invariant-loop-i : goal.invariant-loop-i
-invariant-loop-i l = PointedTo l.state l.ends l.flows l.points l.i

@@ -1,6 +1,0 @@
-use Rattle.std.proofs.Common.{arith, to_z-of_z}
-use Rattle.short_law.proofs.Quotients.{weighted_below}
-use Rattle.short_law.proofs.nodes.weighted.Goals as goal
-
-pub returns-clause-size : goal.returns-clause-size
-returns-clause-size c = grind (arith, to_z-of_z, weighted_below c.args.c c.args.weight c.requires.value_in)

@@ -1,2 +1,0 @@
-pub mod LawRange
-pub mod Laws
