@@ -1,0 +1,6 @@
+pub mod Divided
+pub mod EndPoints
+pub mod Gathered
+pub mod Shares
+pub mod Suiting
+pub mod TimeTables

@@ -1,0 +1,5 @@
+use Rattle.scheme.proofs.Divided.{computable}
+use Rattle.scheme.proofs.physics.Physics.over.Goals as goal
+
+pub invariant_of-result : goal.invariant_of-result
+invariant_of-result c = record { fit = computable c.args.case.now c.args.mesh.now c.requires.read c.requires.same c.requires.accepted c.requires.good }

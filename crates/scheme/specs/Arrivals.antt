@@ -1,0 +1,41 @@
+-- What arrives at a node along its pipe ends. After Wylie and Streeter, Fluid Transients in Systems:
+-- boundary conditions.
+use Rattle.std.specs.Prelude.{◌<◌, ◌≤◌, ℕ, ℤ, Option, Some, None, if◌then◌else◌, List, [], ◌∷◌, length, slice_index_or}
+use Rattle.case_model.specs.declared.points.Point.{Point}
+use Rattle.case_model.specs.declared.meshes.Arrival.{Arrival}
+use Rattle.case_model.specs.declared.meshes.End.{End}
+use Rattle.case_model.specs.declared.meshes.Mesh.{Mesh}
+use Rattle.case_model.specs.Mesh.{no_pipe as no_pipe_mesh}
+use Rattle.charline.specs.Characteristics.{IsImpedance, IsResistance, arrive_plus, arrive_minus}
+
+-- the impedance of a pipe of the mesh, and the friction of one of its reaches
+abbrev pub impedance : Mesh → ℕ → ℤ
+impedance mesh p = (slice_index_or mesh.pipes p no_pipe_mesh).b
+
+abbrev pub resistance : Mesh → ℕ → ℤ
+resistance mesh p = (slice_index_or mesh.pipes p no_pipe_mesh).r
+
+-- each pipe of the mesh has an impedance and a friction within their limits
+pub record HasCoefficients (mesh : Mesh) : Type 0 where
+  pub impedances : (p : ℕ) → p < length mesh.pipes → IsImpedance (impedance mesh p)
+  pub resistances : (p : ℕ) → p < length mesh.pipes → IsResistance (resistance mesh p)
+
+abbrev pub arrival : ℤ → Option ℤ → Option Arrival
+arrival b (Some c) = Some (record { c = c; b = b })
+arrival b None = None
+
+-- what arrives along one end, from the point beside it: C+ at a pipe's last place, C- at place 0
+abbrev pub arrival_from : Mesh → End → Point → Option Arrival
+arrival_from mesh e point =
+    arrival (impedance mesh e.pipe) (if e.at_last then arrive_plus (impedance mesh e.pipe) (resistance mesh e.pipe) point else arrive_minus (impedance mesh e.pipe) (resistance mesh e.pipe) point)
+
+abbrev pub joined : Option Arrival → Option (List Arrival) → Option (List Arrival)
+joined (Some a) (Some arrivals) = Some (a ∷ arrivals)
+joined (Some a) None = None
+joined None arrivals = None
+
+-- what arrives along all ends; nothing where one point is Bad or one value out of range
+abbrev pub arrivals_from : Mesh → List End → List Point → Option (List Arrival)
+arrivals_from mesh [] near = Some []
+arrivals_from mesh (e ∷ ends) [] = None
+arrivals_from mesh (e ∷ ends) (point ∷ near) = joined (arrival_from mesh e point) (arrivals_from mesh ends near)

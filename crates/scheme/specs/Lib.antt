@@ -1,0 +1,9 @@
+pub mod Arrivals
+pub mod Computable
+pub mod Ends
+pub mod LawRange
+pub mod Laws
+pub mod NodeLaws
+pub mod ReadProps
+pub mod Starts
+pub mod Values

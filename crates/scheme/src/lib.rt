@@ -1,0 +1,17 @@
+//! The hydraulic law of a case, over its mesh: the interior law with cavities, every kind of node, and
+//! what stands at step 0, in whole numbers.
+//!
+//! After Wylie and Streeter, Fluid Transients in Systems: method of characteristics, boundary
+//! conditions, column separation.
+#![tactic(auto)]
+
+mod arrivals;
+mod ends;
+mod interior;
+mod levels;
+mod node_laws;
+mod physics;
+mod starts;
+mod values;
+
+pub use physics::Physics;

@@ -1,0 +1,382 @@
+ghost use Rattle.std.specs.Prelude.{◌≡◌, ◌<◌, ◌≤◌, pos, ◌+ℤ◌, unsigned_abs, IsTrue, length, [], ◌∷◌, All};
+ghost use Rattle.case_model.specs.declared.cases.TableKind.TheVariants.{Curve, Gas};
+ghost use Rattle.case_model.specs.Limits.{IsHead, IsFlow, IsWithin, IsKind, IsRead, IsTableOf};
+ghost use Rattle.case_model.specs.Mesh.{ends_of};
+ghost use Rattle.case_model.specs.Parts.{node_at, table_at};
+ghost use Rattle.case_model.specs.Range.{IsPoint, IsState};
+ghost use Rattle.case_model.specs.Refusals.{is_through};
+ghost use Rattle.charline.specs.Cavity.{IsRule};
+ghost use Rattle.charline.specs.Characteristics.{IsArrival};
+ghost use Rattle.junctions.specs.Junctions.{reservoir_state, reservoir_flows, junction_state, junction_flows};
+ghost use Rattle.valves.specs.Orifices.{IsOrifice};
+ghost use Rattle.valves.specs.Discharges.{discharge_state, discharge_flow};
+ghost use Rattle.valves.specs.Devices.{inline_through};
+ghost use Rattle.pumps.specs.Pumps.{pump_through};
+ghost use Rattle.vessels.specs.Vessels.{tank_state, tank_flows, vessel_state, vessel_flows};
+ghost use Rattle.scheme.specs.Computable.{IsComputable, HasEnds, Suits};
+ghost use Rattle.scheme.specs.Arrivals.{HasCoefficients, arrivals_from};
+ghost use Rattle.scheme.specs.Ends.{end_points as points_of, side_one, side_two, through_state, through_points};
+ghost use Rattle.scheme.specs.NodeLaws.{law_if, law_of_kind, node_law as law_of_node, sole, valve_of};
+
+use crate::arrivals::gather;
+use crate::ends::{bad_points, end_points, pass, sides};
+use crate::levels::node_vapour_head;
+use crate::values::{cavity_rule, demand_at, head_at, opening_at, speed_at};
+use case_model::{Arrival, Case, CavityRule, End, Mesh, NodeKind, NodeState, Point};
+use junctions::{junction, reservoir};
+use pumps::pump_flow;
+use valves::{Valve, discharge, inline};
+use vessels::{tank, vessel};
+
+/// The state of a node at a step, of its old state and the points beside it; `points` receives the point
+/// of each of its ends. Bad where something that it reads or a number of the result is.
+#[tactic(auto, unfolding(crate::specs::NodeLaws::node_law))]
+pub(crate) fn node_law(
+    case: &Case,
+    mesh: &Mesh,
+    node: u32,
+    step: u64,
+    own: &NodeState,
+    near: &[Point],
+    points: &mut [Point],
+) -> NodeState
+    requires fit { IsComputable case.now mesh.now }
+    requires on_mesh { node < length mesh.now.ends }
+    requires near_each { length near.now ≡ length (ends_of mesh.now node) }
+    requires points_each { length points.old ≡ length (ends_of mesh.now node) }
+    requires own_in { IsState own.now }
+    requires near_in { All IsPoint near.now }
+    ensures state { result ≡ (law_of_node case.now mesh.now node step own.now near.now).0 }
+    ensures points { points.new ≡ (law_of_node case.now mesh.now node step own.now near.now).1 }
+{
+    let kind = &case.nodes.as_slice()[node as usize].kind;
+    let ends = mesh.ends.as_slice()[node as usize].as_slice();
+    let hv = node_vapour_head(case, node);
+    law_at(case, mesh, hv, kind, step, own, ends, near, points)
+}
+
+fn law_at(
+    case: &Case,
+    mesh: &Mesh,
+    hv: i64,
+    kind: &NodeKind,
+    step: u64,
+    own: &NodeState,
+    ends: &[End],
+    near: &[Point],
+    points: &mut [Point],
+) -> NodeState
+    requires read { IsRead case.now }
+    requires coefficients { HasCoefficients mesh.now }
+    requires head_in { unsigned_abs hv ≤ 100_000_000_000 }
+    requires kind_in { IsKind case.now.tables kind.now }
+    requires has_ends { HasEnds mesh.now kind.now ends.now }
+    requires ends_in { All (λ e. e.pipe < length mesh.now.pipes) ends.now }
+    requires own_in { IsState own.now }
+    requires near_each { length near.now ≡ length ends.now }
+    requires near_in { All IsPoint near.now }
+    requires points_each { length points.old ≡ length ends.now }
+    ensures state { result ≡ (law_if case.now hv kind.now step own.now ends.now (arrivals_from mesh.now ends.now near.now)).0 }
+    ensures points { points.new ≡ (law_if case.now hv kind.now step own.now ends.now (arrivals_from mesh.now ends.now near.now)).1 }
+{
+    let mut arrivals = [Arrival { c: 0, b: 0 }; 8];
+    let arrivals = &mut arrivals[..ends.len()];
+    if !gather(mesh, ends, near, arrivals) {
+        bad_points(ends, points);
+        return NodeState::Bad;
+    }
+    kind_law(case, hv, kind, step, own, ends, arrivals, points)
+}
+
+#[tactic(auto, unfolding(crate::specs::NodeLaws::law_of_kind))]
+fn kind_law(
+    case: &Case,
+    hv: i64,
+    kind: &NodeKind,
+    step: u64,
+    own: &NodeState,
+    ends: &[End],
+    arrivals: &[Arrival],
+    points: &mut [Point],
+) -> NodeState
+    requires read { IsRead case.now }
+    requires head_in { unsigned_abs hv ≤ 100_000_000_000 }
+    requires kind_in { IsKind case.now.tables kind.now }
+    requires suits { Suits kind.now ends.now arrivals.now }
+    requires own_in { IsState own.now }
+    requires some { 0 < length ends.now }
+    requires few { length ends.now ≤ 8 }
+    requires each { length arrivals.now ≡ length ends.now }
+    requires points_each { length points.old ≡ length ends.now }
+    requires arrivals_in { All IsArrival arrivals.now }
+    ensures state { result ≡ (law_of_kind case.now hv kind.now step own.now ends.now arrivals.now).0 }
+    ensures points { points.new ≡ (law_of_kind case.now hv kind.now step own.now ends.now arrivals.now).1 }
+{
+    match kind {
+        NodeKind::Reservoir { head } => {
+            reservoir_law(head_at(case, head, step), ends, arrivals, points)
+        }
+        NodeKind::Junction { demand, .. } => {
+            let rule = cavity_rule(case, hv);
+            junction_law(
+                &rule,
+                demand_at(case, demand, step),
+                own,
+                ends,
+                arrivals,
+                points,
+            )
+        }
+        NodeKind::Discharge {
+            q0,
+            h0,
+            outlet,
+            opening,
+            ..
+        } => {
+            let rule = cavity_rule(case, hv);
+            let valve = valve(*q0, *h0, *outlet);
+            discharge_law(
+                &rule,
+                &valve,
+                opening_at(case, opening, step),
+                own,
+                ends,
+                arrivals,
+                points,
+            )
+        }
+        NodeKind::Inline {
+            q0,
+            h0,
+            opening,
+            ..
+        } => {
+            inline_law(
+                *q0,
+                *h0,
+                opening_at(case, opening, step),
+                ends,
+                arrivals,
+                points,
+            )
+        }
+        NodeKind::Pump { curve, speed, .. } => {
+            pump_law(
+                case,
+                *curve,
+                speed_at(case, speed, step),
+                ends,
+                arrivals,
+                points,
+            )
+        }
+        NodeKind::Tank { area, .. } => tank_law(case.dt, *area, own, ends, arrivals, points),
+        NodeKind::Vessel { gas, .. } => vessel_law(case, *gas, own, ends, arrivals, points),
+    }
+}
+
+fn valve(q0: i64, h0: i64, outlet: i64) -> Valve
+    ensures { result ≡ valve_of q0 h0 outlet }
+{
+    Valve { q0, h0, outlet }
+}
+
+fn reservoir_law(head: i64, ends: &[End], arrivals: &[Arrival], points: &mut [Point]) -> NodeState
+    requires head_in { IsHead head }
+    requires some { 0 < length ends.now }
+    requires few { length ends.now ≤ 8 }
+    requires each { length arrivals.now ≡ length ends.now }
+    requires points_each { length points.old ≡ length ends.now }
+    requires arrivals_in { All IsArrival arrivals.now }
+    ensures state { result ≡ reservoir_state head arrivals.now }
+    ensures points { points.new ≡ points_of result ends.now (reservoir_flows head arrivals.now) }
+{
+    let mut flows = [0i64; 8];
+    let flows = &mut flows[..ends.len()];
+    let state = reservoir(head, arrivals, flows);
+    end_points(&state, ends, flows, points);
+    state
+}
+
+fn junction_law(
+    rule: &CavityRule,
+    demand: i64,
+    own: &NodeState,
+    ends: &[End],
+    arrivals: &[Arrival],
+    points: &mut [Point],
+) -> NodeState
+    requires rule { IsRule rule.now }
+    requires demand_in { IsFlow demand }
+    requires own_in { IsState own.now }
+    requires some { 0 < length ends.now }
+    requires few { length ends.now ≤ 8 }
+    requires each { length arrivals.now ≡ length ends.now }
+    requires points_each { length points.old ≡ length ends.now }
+    requires arrivals_in { All IsArrival arrivals.now }
+    ensures state { result ≡ junction_state rule.now demand own.now arrivals.now }
+    ensures points { points.new ≡ points_of result ends.now (junction_flows rule.now demand own.now arrivals.now) }
+{
+    let mut flows = [0i64; 8];
+    let flows = &mut flows[..ends.len()];
+    let state = junction(rule, demand, own, arrivals, flows);
+    end_points(&state, ends, flows, points);
+    state
+}
+
+fn discharge_law(
+    rule: &CavityRule,
+    valve: &Valve,
+    opening: i64,
+    own: &NodeState,
+    ends: &[End],
+    arrivals: &[Arrival],
+    points: &mut [Point],
+) -> NodeState
+    requires rule { IsRule rule.now }
+    requires outlet_in { IsHead valve.now.outlet }
+    requires opening_in { IsWithin (pos 0) (pos 1_000_000) opening }
+    requires own_in { IsState own.now }
+    requires one { length ends.now ≡ 1 }
+    requires each { length arrivals.now ≡ length ends.now }
+    requires points_each { length points.old ≡ length ends.now }
+    requires arrivals_in { All IsArrival arrivals.now }
+    requires valve_in { IsOrifice (sole arrivals.now).b valve.now.q0 valve.now.h0 }
+    ensures state { result ≡ discharge_state rule.now valve.now opening own.now (sole arrivals.now) }
+    ensures points { points.new ≡ points_of result ends.now (discharge_flow rule.now valve.now opening own.now (sole arrivals.now) ∷ []) }
+{
+    let mut flows = [0i64];
+    let arrival = first(arrivals);
+    let state = discharge_end(rule, valve, opening, own, &arrival, &mut flows);
+    end_points(&state, ends, &flows, points);
+    state
+}
+
+fn discharge_end(
+    rule: &CavityRule,
+    valve: &Valve,
+    opening: i64,
+    own: &NodeState,
+    arrival: &Arrival,
+    flows: &mut [i64],
+) -> NodeState
+    requires rule { IsRule rule.now }
+    requires outlet_in { IsHead valve.now.outlet }
+    requires opening_in { IsWithin (pos 0) (pos 1_000_000) opening }
+    requires own_in { IsState own.now }
+    requires arrival_in { IsArrival arrival.now }
+    requires valve_in { IsOrifice arrival.now.b valve.now.q0 valve.now.h0 }
+    requires one { length flows.old ≡ 1 }
+    ensures state { result ≡ discharge_state rule.now valve.now opening own.now arrival.now }
+    ensures flow { flows.new ≡ discharge_flow rule.now valve.now opening own.now arrival.now ∷ [] }
+{
+    discharge(rule, valve, opening, own, arrival, &mut flows[0])
+}
+
+fn first(arrivals: &[Arrival]) -> Arrival
+    requires some { 0 < length arrivals.now }
+    requires arrivals_in { All IsArrival arrivals.now }
+    ensures value { result ≡ sole arrivals.now }
+    ensures limits { IsArrival result }
+{
+    arrivals[0]
+}
+
+fn inline_law(
+    q0: i64,
+    h0: i64,
+    opening: i64,
+    ends: &[End],
+    arrivals: &[Arrival],
+    points: &mut [Point],
+) -> NodeState
+    requires opening_in { IsWithin (pos 0) (pos 1_000_000) opening }
+    requires through { IsTrue (is_through ends.now) }
+    requires each { length arrivals.now ≡ length ends.now }
+    requires points_each { length points.old ≡ length ends.now }
+    requires arrivals_in { All IsArrival arrivals.now }
+    requires valve_in { IsOrifice ((side_one ends.now arrivals.now).b +ℤ (side_two ends.now arrivals.now).b) q0 h0 }
+    ensures state { result ≡ through_state (inline_through q0 h0 opening (side_one ends.now arrivals.now) (side_two ends.now arrivals.now)) }
+    ensures points { points.new ≡ through_points (inline_through q0 h0 opening (side_one ends.now arrivals.now) (side_two ends.now arrivals.now)) ends.now }
+{
+    let (one, two) = sides(ends, arrivals);
+    let valve = valve(q0, h0, 0);
+    pass(&inline(&valve, opening, &one, &two), ends, points)
+}
+
+fn pump_law(
+    case: &Case,
+    curve: u32,
+    speed: i64,
+    ends: &[End],
+    arrivals: &[Arrival],
+    points: &mut [Point],
+) -> NodeState
+    requires read { IsRead case.now }
+    requires curve_in { IsTableOf Curve case.now.tables curve }
+    requires speed_in { IsWithin (pos 0) (pos 2_000_000) speed }
+    requires through { IsTrue (is_through ends.now) }
+    requires each { length arrivals.now ≡ length ends.now }
+    requires points_each { length points.old ≡ length ends.now }
+    requires arrivals_in { All IsArrival arrivals.now }
+    ensures state { result ≡ through_state (pump_through (table_at case.now curve).points speed (side_one ends.now arrivals.now) (side_two ends.now arrivals.now)) }
+    ensures points { points.new ≡ through_points (pump_through (table_at case.now curve).points speed (side_one ends.now arrivals.now) (side_two ends.now arrivals.now)) ends.now }
+{
+    let (one, two) = sides(ends, arrivals);
+    let curve = case.tables.as_slice()[curve as usize].points.as_slice();
+    pass(&pump_flow(curve, speed, &one, &two), ends, points)
+}
+
+fn tank_law(
+    dt: i64,
+    area: i64,
+    own: &NodeState,
+    ends: &[End],
+    arrivals: &[Arrival],
+    points: &mut [Point],
+) -> NodeState
+    requires dt_in { IsWithin (pos 1) (pos 1_000_000) dt }
+    requires area_in { IsWithin (pos 1) (pos 1_000_000_000) area }
+    requires own_in { IsState own.now }
+    requires some { 0 < length ends.now }
+    requires few { length ends.now ≤ 8 }
+    requires each { length arrivals.now ≡ length ends.now }
+    requires points_each { length points.old ≡ length ends.now }
+    requires arrivals_in { All IsArrival arrivals.now }
+    ensures state { result ≡ tank_state dt area own.now arrivals.now }
+    ensures points { points.new ≡ points_of result ends.now (tank_flows dt area own.now arrivals.now) }
+{
+    let mut flows = [0i64; 8];
+    let flows = &mut flows[..ends.len()];
+    let state = tank(dt, area, own, arrivals, flows);
+    end_points(&state, ends, flows, points);
+    state
+}
+
+fn vessel_law(
+    case: &Case,
+    gas: u32,
+    own: &NodeState,
+    ends: &[End],
+    arrivals: &[Arrival],
+    points: &mut [Point],
+) -> NodeState
+    requires read { IsRead case.now }
+    requires gas_in { IsTableOf Gas case.now.tables gas }
+    requires own_in { IsState own.now }
+    requires some { 0 < length ends.now }
+    requires few { length ends.now ≤ 8 }
+    requires each { length arrivals.now ≡ length ends.now }
+    requires points_each { length points.old ≡ length ends.now }
+    requires arrivals_in { All IsArrival arrivals.now }
+    ensures state { result ≡ vessel_state case.now.dt (table_at case.now gas).points own.now arrivals.now }
+    ensures points { points.new ≡ points_of result ends.now (vessel_flows case.now.dt (table_at case.now gas).points own.now arrivals.now) }
+{
+    let mut flows = [0i64; 8];
+    let flows = &mut flows[..ends.len()];
+    let gas = case.tables.as_slice()[gas as usize].points.as_slice();
+    let state = vessel(case.dt, gas, own, arrivals, flows);
+    end_points(&state, ends, flows, points);
+    state
+}
