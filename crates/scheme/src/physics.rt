@@ -1,7 +1,7 @@
-ghost use Rattle.std.specs.Prelude.{◌≡◌};
+ghost use Rattle.std.specs.Prelude.{◌≡◌, ◌<◌, ◌≤◌, ℕ, length};
 ghost use Rattle.case_model.specs.Division.{mesh_of};
 ghost use Rattle.case_model.specs.Limits.{IsRead};
-ghost use Rattle.case_model.specs.Mesh.{IsMesh};
+ghost use Rattle.case_model.specs.Mesh.{IsMesh, ends_of};
 ghost use Rattle.case_model.specs.Refusals.{passes};
 ghost use Rattle.case_model.specs.Sets.{AreEmpty};
 ghost use Rattle.scheme.specs.Computable.{IsComputable};
@@ -29,7 +29,8 @@ impl<'a> Physics<'a> {
         requires same { mesh.now ≡ mesh_of case.now }
         requires accepted { AreEmpty (passes case.now) }
         requires good { IsMesh mesh.now }
-        ensures { ⟦<Physics<'a> as Law>⟧.meaning result ≡ meaning_of case.now mesh.now }
+        ensures meaning { ⟦<Physics<'a> as Law>⟧.meaning result ≡ meaning_of case.now mesh.now }
+        ensures ends { (k : ℕ) → k < length mesh.now.ends → length (ends_of mesh.now k) ≤ 8 }
     {
         Physics { case, mesh }
     }
