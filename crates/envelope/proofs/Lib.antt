@@ -1,0 +1,9 @@
+pub mod FirstBad
+pub mod Greatest
+pub mod Joined
+pub mod Placed
+pub mod Sampled
+pub mod Standing
+pub mod Noted
+pub mod Merged
+pub mod Read

@@ -1,0 +1,43 @@
+-- What is read of a fold.
+use Rattle.std.proofs.Common.{◌≡◌, ◌≢◌, ◌∙◌, ℕ, ◌/◌, ◌%◌, ◌<◌, ◌≤◌, inl, inr, refl, sym, ap, [], length, get_or, replicate, Some, None, arith, eq-eqb, ne_eqb}
+use Rattle.std.proofs.lemmas.Bool.{le-leb, lt-leb}
+use Rattle.std.proofs.lemmas.List.{get_or-replicate, length-replicate, get_or_past}
+use Rattle.std.proofs.Math.Bool.{and-false}
+use Rattle.envelope.specs.Cells.{cell_of}
+use Rattle.envelope.specs.Extremes.{unmet}
+use Rattle.envelope.specs.Folds.{Stands}
+use Rattle.envelope.specs.Lines.{told}
+use Rattle.envelope.specs.Notings.{Noted, column, taken, sample_over}
+use Rattle.envelope.specs.declared.extremes.Extreme.{Extreme}
+use Rattle.envelope.specs.declared.folds.Fold.{Fold}
+use Rattle.envelope.proofs.Placed.{or-over}
+use Rattle.envelope.proofs.Sampled.{whole-steps}
+use Rattle.envelope.proofs.Standing.{in-line}
+
+pub sampled-then : (map : Noted) (every last place step : ℕ) → step % every ≡ 0 → step ≤ last → sample_over map every last place step ≡ taken (map step place)
+unfolding sample_over
+sampled-then map every last place step h l = rw (eq-eqb (step % every) 0 h, le-leb step last l) refl
+
+pub past-sampled : (map : Noted) (every last place step : ℕ) → last < step → None ≡ sample_over map every last place step
+unfolding sample_over
+past-sampled map every last place step h = rw (lt-leb step last h, and-false) refl
+
+pub between-sampled : (map : Noted) (every last place step : ℕ) → step % every ≢ 0 → None ≡ sample_over map every last place step
+unfolding sample_over
+between-sampled map every last place step h = rw (ne_eqb (step % every) 0 h) refl
+
+pub sampled : (fold : Fold) (map : Noted) (probe step line : ℕ) → Stands fold map → probe < length fold.probes.items → step ≤ fold.steps → step % fold.every ≡ 0
+    → get_or fold.marks.items (cell_of fold.spans.items fold.bases.items (get_or fold.probes.items probe 0)) None ≡ Some line
+    → told (get_or (get_or fold.samples.items line []) (step / fold.every) None) ≡ sample_over map fold.every fold.steps (get_or fold.probes.items probe 0) step
+sampled fold map probe step line p l le m h =
+    let w = whole-steps step fold.every m in
+    (p.places (get_or fold.probes.items probe 0) (fold.probed probe l)).line_has line h (step / fold.every)
+    (in-line fold (cell_of fold.spans.items fold.bases.items (get_or fold.probes.items probe 0)) line step h le) (omega arith)
+    ∙ ap (column map (get_or fold.probes.items probe 0)) w
+    ∙ sym (sampled-then map fold.every fold.steps (get_or fold.probes.items probe 0) step m le)
+
+pub all-unmet : (n i : ℕ) → get_or (replicate n unmet) i unmet ≡ unmet
+all-unmet n i = elim (or-over n i) [
+  | inl h ↦ get_or_past (replicate n unmet) i unmet (omega (arith, length-replicate {A = Extreme}))
+  | inr h ↦ get_or-replicate n i unmet unmet h
+]

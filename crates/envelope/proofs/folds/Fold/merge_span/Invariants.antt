@@ -1,0 +1,5 @@
+use Rattle.envelope.specs.Folds.{AreJoined}
+use Rattle.envelope.proofs.folds.Fold.merge_span.Given as goal
+
+abbrev pub invariant-loop-place : goal.invariant-loop-place
+invariant-loop-place l = AreJoined l.fn.self l.other l.self l.first l.place

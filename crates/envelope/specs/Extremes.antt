@@ -1,0 +1,33 @@
+-- The extremes of one place over what is taken of it, step by step.
+use Rattle.std.specs.Prelude.{◌≡◌, ℕ, ◌≤◌, pos, negsuc, ◌≤ℤ◌, ◌<ℤ◌, Option, Some, None}
+use Rattle.case_model.specs.Samples.{Sample, head_of, volume_of, IsGreatest, IsSmallest}
+use Rattle.envelope.specs.declared.extremes.Extreme.{Extreme}
+
+-- the first where it is there, else the second
+abbrev pub first_of : {X : Type 0} → Option X → Option X → Option X
+first_of (Some x) other = Some x
+first_of None other = other
+
+-- at each step what either has
+abbrev pub either : {X : Type 0} → (ℕ → Option X) → (ℕ → Option X) → ℕ → Option X
+either f g step = first_of (f step) (g step)
+
+-- where both have a value it is the same
+abbrev pub AgreeAlong : {X : Type 0} → (ℕ → Option X) → (ℕ → Option X) → Type 0
+AgreeAlong {X} f g = (step : ℕ) (x y : X) → f step ≡ Some x → g step ≡ Some y → x ≡ y
+
+-- the envelope of what is taken at the steps 0 to the last: greatest and least head and greatest
+-- volume, each with the least step at which it stands
+pub record IsEnvelopeOf (f : ℕ → Option Sample) (last : ℕ) (e : Extreme) : Type 0 where
+  pub greatest_head : IsGreatest (λ s. head_of (f s)) last e.max e.max_step
+  pub least_head : IsSmallest (λ s. head_of (f s)) last e.min e.min_step
+  pub greatest_volume : IsGreatest (λ s. volume_of (f s)) last e.volume e.volume_step
+
+-- what a cell keeps: the envelope, or where its greatest head is below its least that nothing is taken
+pub record HasExtreme (f : ℕ → Option Sample) (last : ℕ) (e : Extreme) : Type 0 where
+  pub unmet : e.max <ℤ e.min → (s : ℕ) → s ≤ last → f s ≡ None
+  pub filled : e.min ≤ℤ e.max → IsEnvelopeOf f last e
+
+-- the cell of a place of which nothing is taken
+abbrev pub unmet : Extreme
+unmet = record { max = negsuc 0; max_step = 0; min = pos 0; min_step = 0; volume = pos 0; volume_step = 0 }

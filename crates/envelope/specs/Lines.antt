@@ -1,0 +1,32 @@
+-- The samples that a fold keeps: for each probe a line of them, one for each step that is sampled.
+use Rattle.std.specs.Prelude.{◌≡◌, ◌≢◌, ℕ, ◌*◌, ◌<◌, ◌≤◌, List, [], length, slice_index, slice_index_or, replicate, Option, Some, None, true}
+use Rattle.case_model.specs.Samples.{Sample}
+use Rattle.envelope.specs.Cells.{cell_of, is_within}
+use Rattle.envelope.specs.declared.samples.Sample.{Sample as Kept}
+
+abbrev pub told : Option Kept → Option Sample
+told (Some s) = Some (record { h = s.h; qu = s.qu; qd = s.qd; v = s.v })
+told None = None
+
+-- a line of samples has what is taken at the steps 0, every, 2*every .. up to the last
+abbrev pub HasSamples : (ℕ → Option Sample) → ℕ → ℕ → List (Option Kept) → Type 0
+HasSamples f last every line = (j : ℕ) → j < length line → j * every ≤ last → told (slice_index_or line j None) ≡ f (j * every)
+
+-- which line of samples belongs to a cell: that of a probe at its place; each probe's place has one
+pub record IsMarked (spans : List (ℕ × ℕ)) (bases : List ℕ) (probes : List ℕ) (count : ℕ) (marks : List (Option ℕ)) : Type 0 where
+  pub own : (c line : ℕ) → slice_index_or marks c None ≡ Some line → (line < count) × (cell_of spans bases (slice_index probes line) ≡ c)
+  pub each : (p : ℕ) → p < count → slice_index_or marks (cell_of spans bases (slice_index probes p)) None ≢ None
+
+-- every probe lies in a span
+abbrev pub AreWithin : List (ℕ × ℕ) → List ℕ → Type 0
+AreWithin spans probes = (p : ℕ) → p < length probes → is_within spans (slice_index probes p) ≡ true
+
+-- a line for each probe, each with a sample for each of these many steps
+pub record AreLines (count width : ℕ) (samples : List (List (Option Kept))) : Type 0 where
+  pub lines : length samples ≡ count
+  pub widths : (p : ℕ) → p < count → length (slice_index_or samples p []) ≡ width
+
+-- such lines without a sample
+pub record AreBlank (count width : ℕ) (samples : List (List (Option Kept))) : Type 0 where
+  pub lines : length samples ≡ count
+  pub blank : (p : ℕ) → p < count → slice_index_or samples p [] ≡ replicate width None

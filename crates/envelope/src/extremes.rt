@@ -1,0 +1,131 @@
+ghost use Rattle.std.specs.Prelude.{◌≡◌, ◌≢◌, ℕ, ◌<◌, ◌≤◌, ◌≤ℤ◌, ◌<ℤ◌, true, false, Option, Some, None, length, replicate, slice_index_or, IfOk};
+ghost use Rattle.case_model.specs.Samples.{Sample as Taken};
+ghost use Rattle.envelope.specs.Extremes.{AgreeAlong, either, unmet, HasExtreme};
+
+use crate::Sample;
+use crate::peaks::{Peak, greater, lesser};
+use std::alloc::{AllocError, Global};
+
+/// The envelope of a place up to a step: each number with the first step at which it stands.
+#[derive(Clone, Copy, Debug, PartialEq, Eq)]
+pub struct Extreme {
+    /// The greatest head, in 1e-6 m.
+    pub max: i64,
+    /// The first step at which the greatest head stands.
+    pub max_step: u64,
+    /// The least head, in 1e-6 m.
+    pub min: i64,
+    /// The first step at which the least head stands.
+    pub min_step: u64,
+    /// The greatest volume, in 1e-9 m3.
+    pub volume: i64,
+    /// The first step at which the greatest volume stands.
+    pub volume_step: u64,
+}
+
+impl Extreme {
+    /// The extreme of a place of which nothing is taken: its greatest head is below its least.
+    pub(crate) fn unmet() -> Extreme
+        ensures value { result ≡ unmet }
+    {
+        Extreme {
+            max: -1,
+            max_step: 0,
+            min: 0,
+            min_step: 0,
+            volume: 0,
+            volume_step: 0,
+        }
+    }
+
+    /// The extreme of a place of which one sample is taken.
+    pub(crate) fn of_one(step: u64, sample: &Sample) -> Extreme
+        ensures { (f : ℕ → Option Taken) (last : ℕ) → step ≤ last → f step ≡ Some (record { h = sample.now.h; qu = sample.now.qu; qd = sample.now.qd; v = sample.now.v }) → ((s : ℕ) → s ≢ step → f s ≡ None) → HasExtreme f last result }
+    {
+        Extreme {
+            max: sample.h,
+            max_step: step,
+            min: sample.h,
+            min_step: step,
+            volume: sample.v,
+            volume_step: step,
+        }
+    }
+
+    /// The extreme of a place of which is taken what these two stand for.
+    pub(crate) fn joined(&self, other: &Extreme) -> Extreme
+        ensures { (f g : ℕ → Option Taken) (last : ℕ) → AgreeAlong f g → HasExtreme f last self.now → HasExtreme g last other.now → HasExtreme (either f g) last result }
+    {
+        if other.is_unmet() {
+            return *self;
+        }
+        if self.is_unmet() {
+            return *other;
+        }
+        let max = greater(self.highest(), other.highest());
+        let min = lesser(self.lowest(), other.lowest());
+        let volume = greater(self.fullest(), other.fullest());
+        Extreme {
+            max: max.value,
+            max_step: max.step,
+            min: min.value,
+            min_step: min.step,
+            volume: volume.value,
+            volume_step: volume.step,
+        }
+    }
+
+    fn is_unmet(&self) -> bool
+        ensures unmet { result ≡ true → self.now.max <ℤ self.now.min }
+        ensures met { result ≡ false → self.now.min ≤ℤ self.now.max }
+    {
+        self.max < self.min
+    }
+
+    fn highest(&self) -> Peak
+        ensures value { result.value ≡ self.now.max }
+        ensures step { result.step ≡ self.now.max_step }
+    {
+        Peak {
+            value: self.max,
+            step: self.max_step,
+        }
+    }
+
+    fn lowest(&self) -> Peak
+        ensures value { result.value ≡ self.now.min }
+        ensures step { result.step ≡ self.now.min_step }
+    {
+        Peak {
+            value: self.min,
+            step: self.min_step,
+        }
+    }
+
+    fn fullest(&self) -> Peak
+        ensures value { result.value ≡ self.now.volume }
+        ensures step { result.step ≡ self.now.volume_step }
+    {
+        Peak {
+            value: self.volume,
+            step: self.volume_step,
+        }
+    }
+}
+
+/// As many cells of places of which nothing is taken.
+pub(crate) fn blank_cells(alloc: Global, count: usize) -> Result<Vec<Extreme>, AllocError>
+    ensures { IfOk result (λ cells. cells.items ≡ replicate count unmet) }
+{
+    vec![in alloc; Extreme::unmet(); count]
+}
+
+/// Joins what another extreme stands for to that of a cell.
+pub(crate) fn join_cell(cells: &mut Vec<Extreme>, cell: usize, other: &Extreme)
+    requires { cell < length cells.old.items }
+    ensures here { (f g : ℕ → Option Taken) (last : ℕ) → AgreeAlong f g → HasExtreme f last (slice_index_or cells.old.items cell unmet) → HasExtreme g last other.now → HasExtreme (either f g) last (slice_index_or cells.new.items cell unmet) }
+    ensures others { (c : ℕ) → c ≢ cell → slice_index_or cells.new.items c unmet ≡ slice_index_or cells.old.items c unmet }
+    ensures count { length cells.new.items ≡ length cells.old.items }
+{
+    cells[cell] = cells[cell].joined(other);
+}

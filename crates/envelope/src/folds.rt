@@ -1,0 +1,235 @@
+ghost use Rattle.std.specs.Prelude.{◌≡◌, ℕ, ◌+◌, ◌/◌, ◌≤◌, length, slice_index};
+ghost use Rattle.envelope.specs.Cells.{IsRising, IsLaidOut};
+ghost use Rattle.envelope.specs.Lines.{AreWithin, IsMarked, AreLines};
+
+use crate::cells::{find_cell, lay_out};
+use crate::extremes::{blank_cells, join_cell};
+use crate::faults::earlier;
+use crate::lines::{blank_lines, join_line, keep_sample, mark, sample_in};
+use crate::{Extreme, Sample};
+use case_model::{List, NodeState, Point};
+use std::alloc::{AllocError, Global};
+
+/// Of the places of some spans, over what was noted of them: the envelope of each, the samples of
+/// probes, and the first fault. All memory is taken by `make`.
+#[derive(Drop, Debug)]
+pub struct Fold {
+    spans: Vec<(u64, u64)>,
+    bases: Vec<usize>,
+    probes: Vec<u64>,
+    steps: u64,
+    every: u64,
+    cells: Vec<Extreme>,
+    marks: Vec<Option<u32>>,
+    samples: Vec<List<Option<Sample>>>,
+    fault: Option<(u64, u64)>,
+    ghost rising: { IsRising spans.items },
+    ghost laid_out: { IsLaidOut spans.items bases.items },
+    ghost probed: { AreWithin spans.items probes.items },
+    ghost sampled: { 1 ≤ every },
+    ghost filled: { length cells.items ≡ slice_index bases.items (length spans.items) },
+    ghost marks_fit: { length marks.items ≡ slice_index bases.items (length spans.items) },
+    ghost marked: { IsMarked spans.items bases.items probes.items (length probes.items) marks.items },
+    ghost lined: { AreLines (length probes.items) (steps / every + 1) samples.items },
+}
+
+impl Fold {
+    ghost use Rattle.std.specs.Prelude.{◌≢◌, ◌*◌, ◌<◌, true, false, Option, Some, None, IfOk};
+    ghost use Rattle.std.specs.List.{filter};
+    ghost use Rattle.case_model.specs.Samples.{Sample as Taken};
+    ghost use Rattle.envelope.specs.Cells.{is_within, first_of_span, end_of_span};
+    ghost use Rattle.envelope.specs.Extremes.{IsEnvelopeOf};
+    ghost use Rattle.envelope.specs.Faults.{HasFault};
+    ghost use Rattle.envelope.specs.Folds.{spans_of, probes_of, steps_of, every_of, Stands, IsFoldOf, IsSameFold, IsKeptAt, AreJoined, IsMergeable};
+    ghost use Rattle.envelope.specs.Lines.{told};
+    ghost use Rattle.envelope.specs.Notings.{Noting, Noted, nothing, only, noted, union, Agree, IsInside, column, sample_over, taken, is_bad_noting};
+    ghost use Rattle.envelope.specs.Notings.Noting.{OfPoint, OfNode};
+
+    /// A fold of which nothing is noted. A span is a first place and a count; a probe is a place
+    /// number. The error is want of memory.
+    pub fn make(
+        alloc: Global,
+        spans: &[(u64, u64)],
+        probes: &[u64],
+        steps: u64,
+        every: u64,
+    ) -> Result<Fold, AllocError>
+        requires spans { IsRising spans.now }
+        requires probes { AreWithin spans.now probes.now }
+        requires some { 1 ≤ every }
+        requires few { length probes.now * (steps / every + 1) ≤ 4_000_000 }
+        ensures given { IfOk result (λ fold. IsFoldOf spans.now probes.now steps every fold) }
+        ensures stands { IfOk result (λ fold. Stands fold nothing) }
+    {
+        let bases = lay_out(alloc, spans)?;
+        let cells = blank_cells(alloc, bases[spans.len()])?;
+        let marks = mark(alloc, spans, &bases, probes)?;
+        let samples = blank_lines(alloc, probes.len(), steps, every)?;
+        Ok(Fold {
+            spans: Vec::from_slice(alloc, spans)?,
+            bases,
+            probes: Vec::from_slice(alloc, probes)?,
+            steps,
+            every,
+            cells,
+            marks,
+            samples,
+            fault: None,
+        })
+    }
+
+    /// Takes in a point of a place of a pipe. A step past the last changes nothing.
+    pub fn note(&mut self, step: u64, place: u64, point: &Point)
+        requires { is_within (spans_of self.old) place ≡ true }
+        ensures stands { (map : Noted) → Stands self.old map → Agree map (only step place (OfPoint point.now)) → Stands self.new (noted map step place (OfPoint point.now)) }
+        ensures past { steps_of self.old < step → self.new ≡ self.old }
+        ensures same { IsSameFold self.old self.new }
+    {
+        match point {
+            Point::Good { h, qu, qd, v } => {
+                let sample = Sample {
+                    h: *h,
+                    qu: *qu,
+                    qd: *qd,
+                    v: *v,
+                };
+                self.keep(step, place, &sample);
+            }
+            Point::Bad => self.fail(step, place),
+        }
+    }
+
+    /// Takes in a node's state. A step past the last changes nothing.
+    pub fn note_node(&mut self, step: u64, place: u64, state: &NodeState)
+        requires { is_within (spans_of self.old) place ≡ true }
+        ensures stands { (map : Noted) → Stands self.old map → Agree map (only step place (OfNode state.now)) → Stands self.new (noted map step place (OfNode state.now)) }
+        ensures past { steps_of self.old < step → self.new ≡ self.old }
+        ensures same { IsSameFold self.old self.new }
+    {
+        match state {
+            NodeState::Good { h, v, g } => {
+                let sample = Sample {
+                    h: *h,
+                    qu: 0,
+                    qd: *g,
+                    v: *v,
+                };
+                self.keep(step, place, &sample);
+            }
+            NodeState::Bad => self.fail(step, place),
+        }
+    }
+
+    /// Takes in what another fold kept of places that are this fold's too.
+    pub fn merge(&mut self, other: &Fold)
+        requires spans { (k : ℕ) → is_within (spans_of other.now) k ≡ true → is_within (spans_of self.old) k ≡ true }
+        requires probes { probes_of other.now ≡ filter (is_within (spans_of other.now)) (probes_of self.old) }
+        requires steps { steps_of other.now ≡ steps_of self.old }
+        requires every { every_of other.now ≡ every_of self.old }
+        ensures stands { (map more : Noted) → Stands self.old map → Stands other.now more → Agree map more → IsInside (spans_of other.now) more → Stands self.new (union map more) }
+        ensures same { IsSameFold self.old self.new }
+    {
+        for index in 0..other.spans.len() {
+            self.merge_span(other, index);
+        }
+        self.fault = earlier(self.fault, other.fault);
+    }
+
+    /// The first fault: the least step, and of it the least place, at which Bad was noted.
+    pub fn fault(&self) -> Option<(u64, u64)>
+        ensures { (map : Noted) → Stands self.now map → HasFault (spans_of self.now) (steps_of self.now) map result }
+    {
+        self.fault
+    }
+
+    /// The envelope of a place, where a Good point of it was noted at a step up to the last.
+    pub fn extreme(&self, place: u64) -> Extreme
+        requires { is_within (spans_of self.now) place ≡ true }
+        ensures { (map : Noted) (step : ℕ) → Stands self.now map → step ≤ steps_of self.now → taken (map step place) ≢ None → IsEnvelopeOf (column map place) (steps_of self.now) result }
+    {
+        let cell = find_cell(&self.spans, &self.bases, place);
+        self.cells[cell]
+    }
+
+    /// The sample of a probe at a step. None where no Good point was noted there, the step is no
+    /// multiple of `every`, or it is past the last.
+    pub fn sample(&self, probe: u32, step: u64) -> Option<Sample>
+        requires { probe < length (probes_of self.now) }
+        ensures { (map : Noted) → Stands self.now map → told result ≡ sample_over map (every_of self.now) (steps_of self.now) (slice_index (probes_of self.now) probe) step }
+    {
+        if step > self.steps || step % self.every != 0 {
+            return None;
+        }
+        let cell = find_cell(&self.spans, &self.bases, self.probes[probe as usize]);
+        match self.marks[cell] {
+            Some(line) => {
+                let line = self.samples[line as usize].as_slice();
+                sample_in(line, (step / self.every) as usize)
+            }
+            None => None,
+        }
+    }
+
+    fn keep(&mut self, step: u64, place: u64, sample: &Sample)
+        requires { is_within (spans_of self.old) place ≡ true }
+        ensures stands { (map : Noted) (noting : Noting) → taken (Some noting) ≡ told (Some sample.now) → is_bad_noting (Some noting) ≡ false → Stands self.old map → Agree map (only step place noting) → Stands self.new (noted map step place noting) }
+        ensures past { steps_of self.old < step → self.new ≡ self.old }
+        ensures same { IsSameFold self.old self.new }
+    {
+        if step <= self.steps {
+            self.keep_within(step, place, sample);
+        }
+    }
+
+    fn keep_within(&mut self, step: u64, place: u64, sample: &Sample)
+        requires place { is_within (spans_of self.old) place ≡ true }
+        requires step { step ≤ steps_of self.old }
+        ensures { IsKeptAt self.old self.new step place (record { h = sample.now.h; qu = sample.now.qu; qd = sample.now.qd; v = sample.now.v }) }
+    {
+        let cell = find_cell(&self.spans, &self.bases, place);
+        join_cell(&mut self.cells, cell, &Extreme::of_one(step, sample));
+        if let Some(line) = self.marks[cell] {
+            keep_sample(&mut self.samples, line, step, self.every, sample);
+        }
+    }
+
+    fn fail(&mut self, step: u64, place: u64)
+        requires { is_within (spans_of self.old) place ≡ true }
+        ensures stands { (map : Noted) (noting : Noting) → taken (Some noting) ≡ None → is_bad_noting (Some noting) ≡ true → Stands self.old map → Agree map (only step place noting) → Stands self.new (noted map step place noting) }
+        ensures past { steps_of self.old < step → self.new ≡ self.old }
+        ensures same { IsSameFold self.old self.new }
+    {
+        let last = self.steps;
+        if step <= last {
+            self.fault = earlier(self.fault, Some((step, place)));
+        }
+    }
+
+    /// Takes in the places of one span of another fold.
+    fn merge_span(&mut self, other: &Fold, index: usize)
+        requires mergeable { IsMergeable self.old other.now }
+        requires there { index < length (spans_of other.now) }
+        ensures { AreJoined self.old other.now self.new (first_of_span (spans_of other.now) index) (end_of_span (spans_of other.now) index) }
+    {
+        let (first, count) = other.spans[index];
+        for place in first..first + count {
+            self.merge_place(other, place);
+        }
+    }
+
+    fn merge_place(&mut self, other: &Fold, place: u64)
+        requires mergeable { IsMergeable self.old other.now }
+        requires within { is_within (spans_of other.now) place ≡ true }
+        ensures { AreJoined self.old other.now self.new place (place + 1) }
+    {
+        let cell = find_cell(&self.spans, &self.bases, place);
+        let from = find_cell(&other.spans, &other.bases, place);
+        join_cell(&mut self.cells, cell, &other.cells[from]);
+        if let Some(line) = self.marks[cell] {
+            if let Some(more) = other.marks[from] {
+                let more = other.samples[more as usize].as_slice();
+                join_line(&mut self.samples, line, more);
+            }
+        }
+    }
+}

@@ -1,0 +1,17 @@
+//! Folds: greatest and least heads and greatest volumes of places, samples of probes, and the first Bad point.
+#![tactic(auto)]
+
+mod cells;
+mod extremes;
+mod faults;
+mod folds;
+mod lines;
+mod peaks;
+mod samples;
+
+pub use extremes::Extreme;
+pub use folds::Fold;
+pub use samples::Sample;
+
+#[cfg(test)]
+mod tests;

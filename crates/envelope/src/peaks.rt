@@ -1,0 +1,38 @@
+ghost use Rattle.std.specs.Prelude.{◌≡◌, ℕ, ℤ, Option};
+ghost use Rattle.case_model.specs.Samples.{IsGreatest, IsSmallest};
+ghost use Rattle.envelope.specs.Extremes.{AgreeAlong, either};
+
+/// A value and the first step at which it stands.
+#[derive(Clone, Copy)]
+pub(crate) struct Peak {
+    /// Head in 1e-6 m, or volume in 1e-9 m3.
+    pub(crate) value: i64,
+    /// The first step at which it stands.
+    pub(crate) step: u64,
+}
+
+/// The greater value, or of two equal ones the earlier.
+pub(crate) fn greater(a: Peak, b: Peak) -> Peak
+    ensures { (f g : ℕ → Option ℤ) (last : ℕ) → AgreeAlong f g → IsGreatest f last a.value a.step → IsGreatest g last b.value b.step → IsGreatest (either f g) last result.value result.step }
+{
+    if b.value < a.value {
+        return a;
+    }
+    if a.value < b.value {
+        return b;
+    }
+    if b.step < a.step { b } else { a }
+}
+
+/// The lesser value, or of two equal ones the earlier.
+pub(crate) fn lesser(a: Peak, b: Peak) -> Peak
+    ensures { (f g : ℕ → Option ℤ) (last : ℕ) → AgreeAlong f g → IsSmallest f last a.value a.step → IsSmallest g last b.value b.step → IsSmallest (either f g) last result.value result.step }
+{
+    if a.value < b.value {
+        return a;
+    }
+    if b.value < a.value {
+        return b;
+    }
+    if a.step <= b.step { a } else { b }
+}
