@@ -12,6 +12,8 @@ pub use status::Status;
 pub use top::surge_plain;
 
 #[cfg(test)]
+mod hand_tests;
+#[cfg(test)]
 mod steady_tests;
 #[cfg(test)]
 mod text_tests;
