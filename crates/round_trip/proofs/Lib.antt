@@ -4,3 +4,7 @@ pub mod FieldsBack
 pub mod CaseTexts
 pub mod PlainCase
 pub mod LinesBack
+pub mod Apart
+pub mod NamesGiven
+pub mod NamesKept
+pub mod AcceptedCase
