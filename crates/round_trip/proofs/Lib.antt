@@ -1,0 +1,10 @@
+pub mod Tests
+pub mod Numbers
+pub mod FieldsBack
+pub mod CaseTexts
+pub mod PlainCase
+pub mod LinesBack
+pub mod Apart
+pub mod NamesGiven
+pub mod NamesKept
+pub mod AcceptedCase

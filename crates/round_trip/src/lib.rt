@@ -1,0 +1,8 @@
+//! The law that the written text of a case reads back as that case.
+#![tactic(auto)]
+
+mod accepted;
+mod texts;
+
+pub use accepted::accepted_is_writable;
+pub use texts::{numbers_read_back, written_lines_are_its_fields};
