@@ -6,3 +6,9 @@ pub mod TablesBack
 pub mod NodesBack
 pub mod PipesBack
 pub mod CaseBack
+pub mod Tests
+pub mod Numbers
+pub mod FieldsBack
+pub mod CaseTexts
+pub mod PlainCase
+pub mod LinesBack
