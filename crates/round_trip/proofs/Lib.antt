@@ -12,3 +12,4 @@ pub mod FieldsBack
 pub mod CaseTexts
 pub mod PlainCase
 pub mod LinesBack
+pub mod DivisionBack
