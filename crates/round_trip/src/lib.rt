@@ -1,6 +1,8 @@
 //! The law that the written text of a case reads back as that case.
 #![tactic(auto)]
 
+mod law;
 mod texts;
 
+pub use law::written_case_is_its_lines;
 pub use texts::{numbers_read_back, written_lines_are_its_fields};
