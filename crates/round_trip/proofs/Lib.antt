@@ -4,6 +4,15 @@ pub mod FieldsBack
 pub mod CaseTexts
 pub mod PlainCase
 pub mod LinesBack
+pub mod Amounts
+pub mod Directives
+pub mod InOrder
+pub mod Indices
+pub mod TablesBack
+pub mod NodesBack
+pub mod PipesBack
+pub mod CaseBack
+pub mod DivisionBack
 pub mod Apart
 pub mod NamesGiven
 pub mod NamesKept

@@ -2,7 +2,9 @@
 #![tactic(auto)]
 
 mod accepted;
+mod law;
 mod texts;
 
 pub use accepted::accepted_is_writable;
+pub use law::written_case_is_its_lines;
 pub use texts::{numbers_read_back, written_lines_are_its_fields};
