@@ -13,3 +13,5 @@ pub mod CaseTexts
 pub mod PlainCase
 pub mod LinesBack
 pub mod DivisionBack
+pub mod CountsBack
+pub mod Once
