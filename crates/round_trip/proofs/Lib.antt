@@ -15,3 +15,5 @@ pub mod LinesBack
 pub mod DivisionBack
 pub mod CountsBack
 pub mod Once
+pub mod FieldsFit
+pub mod LinesFit
