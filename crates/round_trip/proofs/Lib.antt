@@ -17,3 +17,6 @@ pub mod CountsBack
 pub mod Once
 pub mod FieldsFit
 pub mod LinesFit
+pub mod KnownBack
+pub mod RulesBack
+pub mod LawBack
