@@ -29,22 +29,22 @@ use Rattle.round_trip.proofs.NodesBack.{AreTablesFound, node_on, nodes_in_order,
 use Rattle.round_trip.proofs.PipesBack.{AreNodesFound, ArePipesFound, pipe_on, probe_on, pipes_in_order, probes_in_order, pipes_numbered, probes_numbered, each_pipe, each_probe}
 
 -- the lines behind the settings, and those behind the tables, the nodes and the pipes
-abbrev probe_rest : Case → List (List (List ℕ))
+abbrev pub probe_rest : Case → List (List (List ℕ))
 probe_rest case = map (probe_line case.pipes case.nodes) case.probes ++ []
 
-abbrev pipe_rest : Case → List (List (List ℕ))
+abbrev pub pipe_rest : Case → List (List (List ℕ))
 pipe_rest case = map (pipe_line case.nodes) case.pipes ++ probe_rest case
 
-abbrev node_rest : Case → List (List (List ℕ))
+abbrev pub node_rest : Case → List (List (List ℕ))
 node_rest case = map (node_line case.tables) case.nodes ++ pipe_rest case
 
-abbrev table_rest : Case → List (List (List ℕ))
+abbrev pub table_rest : Case → List (List (List ℕ))
 table_rest case = map table_line case.tables ++ node_rest case
 
 right : {X : Type 0} (s a b c d : List X) → s ++ (a ++ b ++ c ++ d) ≡ s ++ (a ++ (b ++ (c ++ (d ++ []))))
 right s a b c d = simp (append_assoc, append-nil)
 
-lines_right : (case : Case) → case_lines case ≡ settings_lines case ++ table_rest case
+pub lines_right : (case : Case) → case_lines case ≡ settings_lines case ++ table_rest case
 unfolding case_lines
 lines_right case = right (settings_lines case) (map table_line case.tables) (map (node_line case.tables) case.nodes) (map (pipe_line case.nodes) case.pipes) (map (probe_line case.pipes case.nodes) case.probes)
 
@@ -130,7 +130,7 @@ unfolding settings_lines probe_said said directive_of single_of table_of node_of
 settings_probes pipes nodes case rest = refl
 
 -- the parts of the lines
-tables_back : (case : Case) → IsRead case → tables_of (case_lines case) ≡ tables_on 8 case.tables
+pub tables_back : (case : Case) → IsRead case → tables_of (case_lines case) ≡ tables_on 8 case.tables
 tables_back case h =
     tables_in_order 1 (case_lines case) ∙ ap (λ (lines : List (List (List ℕ))). parts_from table_said 1 lines) (lines_right case) ∙ settings_tables case (table_rest case)
     ∙ taken table_said table_line table_on case.tables 8 (node_rest case) (each_table case.tables h.tables)
@@ -185,7 +185,7 @@ pipe_names : (line : ℕ) (ps : List Pipe) → map (λ p. p.name) (pipes_on line
 pipe_names line [] = refl
 pipe_names line (p ∷ ps) = ap (λ (ms : List (List ℕ)). p.name ∷ ms) (pipe_names (line + 1) ps)
 
-length-names : {X : Type 0} (name_of : X → List ℕ) (xs : List X) → length (map name_of xs) ≡ length xs
+pub length-names : {X : Type 0} (name_of : X → List ℕ) (xs : List X) → length (map name_of xs) ≡ length xs
 length-names name_of [] = refl
 length-names name_of (x ∷ xs) = omega (arith, length-names name_of xs)
 
@@ -256,15 +256,15 @@ unfolding single_amount case_lines settings_lines is_single_of is_single said di
 every_back case h = ap unsigned_abs (amount_back SampleStep (pos case.every) (count_back case.every h.few_every))
 
 -- the parts with those before them as they are read
-nodes_read : (case : Case) → IsRead case → AreNamesApart case → nodes_of (case_lines case) ≡ nodes_on (8 + length case.tables) case.nodes
+pub nodes_read : (case : Case) → IsRead case → AreNamesApart case → nodes_of (case_lines case) ≡ nodes_on (8 + length case.tables) case.nodes
 nodes_read case h a =
     rw (tables_back case h) (nodes_in_order (tables_on 8 case.tables) 1 (case_lines case) ∙ nodes_back (tables_on 8 case.tables) case h (tables_found 8 case.tables a.tables))
 
-pipes_read : (case : Case) → IsRead case → AreNamesApart case → pipes_of (case_lines case) ≡ pipes_on (8 + length case.tables + length case.nodes) case.pipes
+pub pipes_read : (case : Case) → IsRead case → AreNamesApart case → pipes_of (case_lines case) ≡ pipes_on (8 + length case.tables + length case.nodes) case.pipes
 pipes_read case h a =
     rw (nodes_read case h a) (pipes_in_order (nodes_on (8 + length case.tables) case.nodes) 1 (case_lines case) ∙ pipes_back (nodes_on (8 + length case.tables) case.nodes) case h (nodes_found (8 + length case.tables) case.nodes a.nodes))
 
-probes_read : (case : Case) → IsRead case → AreNamesApart case → probes_of (case_lines case) ≡ probes_on (8 + length case.tables + length case.nodes + length case.pipes) case.probes
+pub probes_read : (case : Case) → IsRead case → AreNamesApart case → probes_of (case_lines case) ≡ probes_on (8 + length case.tables + length case.nodes + length case.pipes) case.probes
 probes_read case h a =
     let ns = nodes_on (8 + length case.tables) case.nodes in
     let ps = pipes_on (8 + length case.tables + length case.nodes) case.pipes in

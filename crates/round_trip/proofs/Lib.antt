@@ -13,6 +13,13 @@ pub mod NodesBack
 pub mod PipesBack
 pub mod CaseBack
 pub mod DivisionBack
+pub mod CountsBack
+pub mod Once
+pub mod FieldsFit
+pub mod LinesFit
+pub mod KnownBack
+pub mod RulesBack
+pub mod LawBack
 pub mod Apart
 pub mod NamesGiven
 pub mod NamesKept
