@@ -1,10 +1,7 @@
 -- The lines of the written text say the case, with its parts on the lines where they stand.
-use Rattle.std.proofs.Common.{ℕ, ◌+◌, ◌<◌, ◌≤◌, ◌^◌, ◌≡◌, ℤ, pos, neg_ℤ, unsigned_abs, Option, Some, None, List, [], ◌∷◌, ◌++◌, map, length, get_or, codes, sym, ap, ◌∙◌, refl, arith}
+use Rattle.std.proofs.Common.{ℕ, ◌+◌, ◌≤◌, ◌^◌, ◌≡◌, pos, neg_ℤ, unsigned_abs, Option, Some, None, List, [], ◌∷◌, ◌++◌, map, length, codes, ap, ◌∙◌, refl, arith}
 use Rattle.std.proofs.lemmas.List.{append-nil, append_assoc, get_or-map}
 use Rattle.std.specs.Prelude.{unwrap_or}
-use Rattle.std.specs.List.{find, position_from, All}
-use Rattle.std.specs.Str.{bytes_eq}
-use Rattle.fixed_num.specs.Written.{written}
 use Rattle.case_model.specs.declared.cases.Case.{Case}
 use Rattle.case_model.specs.declared.cases.Table.{Table}
 use Rattle.case_model.specs.declared.cases.Node.{Node}
@@ -16,16 +13,15 @@ use Rattle.case_model.specs.Limits.{IsRead}
 use Rattle.case_model.specs.Parts.{no_table, no_node, no_pipe}
 use Rattle.case_lines.specs.declared.words.Directive.{Directive}
 use Rattle.case_lines.specs.declared.quantities.Quantity.TheVariants.{TimeStep, StepCount, VapourHead, GrowthWeight, SpeedTolerance, SampleStep}
-use Rattle.case_lines.specs.Quantities.{amount}
 use Rattle.case_lines.specs.Words.{single_of, table_of, node_of, directive_of}
 use Rattle.case_rules.specs.Said.{said, is_single, is_single_of}
-use Rattle.case_writing.specs.CaseText.{count_text, name_of_table, name_of_node, name_of_pipe}
+use Rattle.case_writing.specs.CaseText.{name_of_table, name_of_node, name_of_pipe}
 use Rattle.netfile.specs.Built.{single_amount, table_index, node_index, pipe_index, table_by, table_said, tables_of, node_by, node_said, nodes_of, pipe_by, pipe_said, pipes_of, probe_by, probe_said, probes_of, case_of}
 use Rattle.round_trip.specs.Lines.{settings_lines, table_line, node_line, pipe_line, probe_line, case_lines}
 use Rattle.round_trip.specs.Renumbered.{tables_on, nodes_on, pipes_on, probes_on, renumbered}
 use Rattle.round_trip.specs.Writable.{case_names, AreApart, IsWritable}
 use Rattle.round_trip.proofs.Amounts.{IsSmall, amount_back, small_above, small_between}
-use Rattle.round_trip.proofs.Directives.{kind_word, spot_directive, of_table, of_node, of_pipe, of_probe}
+use Rattle.round_trip.proofs.Directives.{spot_directive, of_table, of_node, of_pipe, of_probe}
 use Rattle.round_trip.proofs.InOrder.{parts_from, numbered, skipped, taken}
 use Rattle.round_trip.proofs.Indices.{apart_left, apart_right, index_back}
 use Rattle.round_trip.proofs.TablesBack.{table_on, tables_in_order, tables_numbered, each_table}
@@ -139,9 +135,9 @@ tables_back case h =
     tables_in_order 1 (case_lines case) ∙ ap (λ (lines : List (List (List ℕ))). parts_from table_said 1 lines) (lines_right case) ∙ settings_tables case (table_rest case)
     ∙ taken table_said table_line table_on case.tables 8 (node_rest case) (each_table case.tables h.tables)
     ∙ ap (λ (ts : List Table). numbered table_on 8 case.tables ++ ts) (
-      skipped table_said (node_line case.tables) case.nodes (8 + length case.tables) (pipe_rest case) (node_no_table case.tables)
-      ∙ skipped table_said (pipe_line case.nodes) case.pipes (8 + length case.tables + length case.nodes) (probe_rest case) (pipe_no_table case.nodes)
-      ∙ skipped table_said (probe_line case.pipes case.nodes) case.probes (8 + length case.tables + length case.nodes + length case.pipes) [] (probe_no_table case.pipes case.nodes)
+    skipped table_said (node_line case.tables) case.nodes (8 + length case.tables) (pipe_rest case) (node_no_table case.tables)
+    ∙ skipped table_said (pipe_line case.nodes) case.pipes (8 + length case.tables + length case.nodes) (probe_rest case) (pipe_no_table case.nodes)
+    ∙ skipped table_said (probe_line case.pipes case.nodes) case.probes (8 + length case.tables + length case.nodes + length case.pipes) [] (probe_no_table case.pipes case.nodes)
     ) ∙ append-nil (numbered table_on 8 case.tables) ∙ tables_numbered 8 case.tables
 
 nodes_back : (read : List Table) (case : Case) → IsRead case → AreTablesFound read case.tables → parts_from (node_said read) 1 (case_lines case) ≡ nodes_on (8 + length case.tables) case.nodes
@@ -150,8 +146,8 @@ nodes_back read case h f =
     ∙ skipped (node_said read) table_line case.tables 8 (node_rest case) (table_no_node read)
     ∙ taken (node_said read) (node_line case.tables) node_on case.nodes (8 + length case.tables) (pipe_rest case) (each_node read case.tables case.nodes f h.nodes)
     ∙ ap (λ (ns : List Node). numbered node_on (8 + length case.tables) case.nodes ++ ns) (
-      skipped (node_said read) (pipe_line case.nodes) case.pipes (8 + length case.tables + length case.nodes) (probe_rest case) (pipe_no_node read case.nodes)
-      ∙ skipped (node_said read) (probe_line case.pipes case.nodes) case.probes (8 + length case.tables + length case.nodes + length case.pipes) [] (probe_no_node read case.pipes case.nodes)
+    skipped (node_said read) (pipe_line case.nodes) case.pipes (8 + length case.tables + length case.nodes) (probe_rest case) (pipe_no_node read case.nodes)
+    ∙ skipped (node_said read) (probe_line case.pipes case.nodes) case.probes (8 + length case.tables + length case.nodes + length case.pipes) [] (probe_no_node read case.pipes case.nodes)
     ) ∙ append-nil (numbered node_on (8 + length case.tables) case.nodes) ∙ nodes_numbered (8 + length case.tables) case.nodes
 
 pipes_back : (read : List Node) (case : Case) → IsRead case → AreNodesFound read case.nodes → parts_from (pipe_said read) 1 (case_lines case) ≡ pipes_on (8 + length case.tables + length case.nodes) case.pipes
@@ -273,7 +269,7 @@ probes_read case h a =
     let ns = nodes_on (8 + length case.tables) case.nodes in
     let ps = pipes_on (8 + length case.tables + length case.nodes) case.pipes in
     rw (pipes_read case h a, nodes_read case h a) (probes_in_order ps ns 1 (case_lines case)
-      ∙ probes_back ps ns case h (pipes_found (8 + length case.tables + length case.nodes) case.pipes a.pipes) (nodes_found (8 + length case.tables) case.nodes a.nodes))
+    ∙ probes_back ps ns case h (pipes_found (8 + length case.tables + length case.nodes) case.pipes a.pipes) (nodes_found (8 + length case.tables) case.nodes a.nodes))
 
 pub case_back : (case : Case) → IsWritable case → case_of (case_lines case) ≡ renumbered case
 unfolding case_of renumbered

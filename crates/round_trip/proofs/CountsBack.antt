@@ -1,6 +1,6 @@
 -- The lines of a written case break no rule on counts of parts.
-use Rattle.std.proofs.Common.{ℕ, zero, suc, ◌+◌, ◌<◌, ◌≤◌, ◌≡◌, ◌==◌, ◌&&◌, ◌||◌, not, nat_lt, Bool, true, false, IsTrue, List, [], ◌∷◌, length, codes, sym, ap, ◌∙◌, refl, arith}
-use Rattle.std.proofs.lemmas.Bool.{and_left, and_right, or_from, le-ltb, ne_eqb, both_ways}
+use Rattle.std.proofs.Common.{ℕ, ◌+◌, ◌≡◌, ◌==◌, ◌&&◌, ◌||◌, Bool, true, false, List, [], ◌∷◌, length, codes, sym, ap, ◌∙◌, refl, arith}
+use Rattle.std.proofs.lemmas.Bool.{and_right, or_from, le-ltb, ne_eqb, both_ways}
 use Rattle.std.specs.List.{list_any}
 use Rattle.case_model.specs.declared.cases.Case.{Case}
 use Rattle.case_model.specs.declared.cases.Table.{Table}
@@ -57,8 +57,16 @@ unfolding is_too_large
 few case w =
     let h = w.read in
     let a = names_apart case w.once in
-    rw (count_tables case h, count_nodes case h a, count_pipes case h a, count_probes case h a, le-ltb 1_024 (length case.tables) h.few_tables, le-ltb 4_096 (length case.nodes) h.few_nodes,
-      le-ltb 4_096 (length case.pipes) h.few_pipes, le-ltb 256 (length case.probes) h.few_probes) refl
+    rw (
+      count_tables case h,
+      count_nodes case h a,
+      count_pipes case h a,
+      count_probes case h a,
+      le-ltb 1_024 (length case.tables) h.few_tables,
+      le-ltb 4_096 (length case.nodes) h.few_nodes,
+      le-ltb 4_096 (length case.pipes) h.few_pipes,
+      le-ltb 256 (length case.probes) h.few_probes,
+    ) refl
 
 none_of : (a b c d e : Bool) → c ≡ false → e ≡ false → (a && ((b && c) || (d && e))) ≡ false
 none_of a b c d e f g = and_right a ((b && c) || (d && e)) (or_from (b && c) (d && e) (and_right b c f) (and_right d e g))

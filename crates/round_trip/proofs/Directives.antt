@@ -1,5 +1,5 @@
 -- The directive of each line of the written text.
-use Rattle.std.proofs.Common.{ℕ, ◌≡◌, Some, None, List, ◌∷◌, codes, refl}
+use Rattle.std.proofs.Common.{◌≡◌, Some, List, refl}
 use Rattle.case_model.specs.declared.cases.Table.{Table}
 use Rattle.case_model.specs.declared.cases.TableKind.{TableKind}
 use Rattle.case_model.specs.declared.cases.TableKind.TheVariants.{Heads, Flows, Openings, Speeds, Curve, Gas}

@@ -1,10 +1,10 @@
 -- The division of a case is the same whatever the lines of its parts.
-use Rattle.std.proofs.Common.{inl, inr, ℕ, zero, suc, ◌+◌, ◌*◌, ◌/◌, ◌<◌, ◌≤◌, ◌≡◌, ◌==◌, ◌&&◌, ◌||◌, not, nat_lt, Bool, true, false, cond, IsTrue, ℤ, ◌+ℤ◌, Option, List, [], ◌∷◌, map, take, length, get_or, sym, ap, ◌∙◌, refl, arith}
+use Rattle.std.proofs.Common.{inl, inr, ℕ, zero, suc, ◌+◌, ◌<◌, ◌≡◌, ◌==◌, ◌&&◌, Bool, true, false, ℤ, List, [], ◌∷◌, map, take, length, get_or, sym, ap, ◌∙◌, refl, arith}
 use Rattle.std.proofs.lemmas.List.FromFn.{length-range_with_len, get_or-range_with_len}
 use Rattle.std.proofs.lemmas.List.Folds.{list_any_at, Any-from_list_any}
 use Rattle.std.proofs.lemmas.List.Sums.{sum_by-cons}
 use Rattle.std.proofs.lemmas.Bool.{and_parts, and_from, or_cases, or_left, or_right, eq-eqb}
-use Rattle.std.specs.List.{list_any, range_with_len, sum_by, cons_option}
+use Rattle.std.specs.List.{range_with_len, sum_by, cons_option}
 use Rattle.case_model.specs.declared.cases.Case.{Case}
 use Rattle.case_model.specs.declared.cases.Table.{Table}
 use Rattle.case_model.specs.declared.cases.Node.{Node}
@@ -15,14 +15,12 @@ use Rattle.case_model.specs.declared.cases.Probe.{Probe}
 use Rattle.case_model.specs.declared.cases.ProbeAt.{ProbeAt}
 use Rattle.case_model.specs.declared.cases.ProbeAt.TheVariants.{OnPipe, OnNode}
 use Rattle.case_model.specs.declared.meshes.End.{End}
-use Rattle.case_model.specs.declared.meshes.Mesh.{Mesh}
-use Rattle.case_model.specs.declared.meshes.PipeMesh.{PipeMesh}
 use Rattle.case_model.specs.Sets.{Rules, IsEmpty, AreEmpty, on_line, either, any_below}
 use Rattle.case_model.specs.Ends.{end_if, ends_at}
 use Rattle.case_model.specs.Formulas.{reach_count, b_of, r_of}
 use Rattle.case_model.specs.Parts.{no_pipe, no_node, no_table, no_probe, pipe_at, node_at, table_at, probe_at}
-use Rattle.case_model.specs.Division.{is_count, is_adjusted, has_coefficients, is_divided, divides, place_base, reaches_at, b_at, pipe_mesh, node_ends, mesh_of}
-use Rattle.case_model.specs.Refusals.{is_through, is_over, valve_over, is_outside, ends_suit, exceeds, breaks_pipe, breaks_node, is_off, pipe_rules, node_rules, probe_rules, part_rules, sample_count, is_too_large, size_rules, passes}
+use Rattle.case_model.specs.Division.{is_adjusted, has_coefficients, is_divided, divides, place_base, reaches_at, b_at, pipe_mesh, node_ends, mesh_of}
+use Rattle.case_model.specs.Refusals.{is_through, valve_over, is_outside, exceeds, breaks_pipe, breaks_node, is_off, pipe_rules, node_rules, probe_rules, part_rules, sample_count, is_too_large, size_rules, passes}
 use Rattle.round_trip.specs.Renumbered.{tables_on, nodes_on, pipes_on, probes_on, renumbered}
 
 -- what doesn't hang on the line of a part
@@ -163,8 +161,11 @@ sum_same f s (suc n) line (p ∷ ps) =
 base_kept : (case : Case) (p : ℕ) → place_base (renumbered case) p ≡ place_base case p
 unfolding place_base renumbered
 base_kept case p =
-    omega (arith, nodes_length (8 + length case.tables) case.nodes,
-      sum_same (λ (q : Pipe). reach_count case.dt q + 1) (λ q line. ap (λ (n : ℕ). n + 1) (reach_same case.dt q line)) p (8 + length case.tables + length case.nodes) case.pipes)
+    omega (
+      arith,
+      nodes_length (8 + length case.tables) case.nodes,
+      sum_same (λ (q : Pipe). reach_count case.dt q + 1) (λ q line. ap (λ (n : ℕ). n + 1) (reach_same case.dt q line)) p (8 + length case.tables + length case.nodes) case.pipes,
+    )
 
 pub count_pipes : (case : Case) → length (renumbered case).pipes ≡ length case.pipes
 unfolding renumbered
@@ -226,15 +227,15 @@ parts_empty case e =
     let qs = any_below (probe_rules case) (length case.probes) in
     both_empty (either (any_below (pipe_rules again) (length again.pipes)) (any_below (node_rules again) (length again.nodes))) (any_below (probe_rules again) (length again.probes))
     (both_empty (any_below (pipe_rules again) (length again.pipes)) (any_below (node_rules again) (length again.nodes))
-      (all_moved (pipe_rules case) (pipe_rules again) (length case.pipes) (length again.pipes) (count_pipes case)
-        (λ p. moved (pipe_at case p).line (pipe_at again p).line (breaks_pipe case.dt case.tolerance (pipe_at case p)) (breaks_pipe again.dt again.tolerance (pipe_at again p)) (pipe_breaks_kept case p))
-        (left_empty ps ns (left_empty (either ps ns) qs e)))
-      (all_moved (node_rules case) (node_rules again) (length case.nodes) (length again.nodes) (count_nodes case)
-        (λ k. moved (node_at case k).line (node_at again k).line (breaks_node case (node_at case k) (node_ends case k)) (breaks_node again (node_at again k) (node_ends again k)) (node_breaks_kept case k))
-        (right_empty ps ns (left_empty (either ps ns) qs e))))
+    (all_moved (pipe_rules case) (pipe_rules again) (length case.pipes) (length again.pipes) (count_pipes case)
+    (λ p. moved (pipe_at case p).line (pipe_at again p).line (breaks_pipe case.dt case.tolerance (pipe_at case p)) (breaks_pipe again.dt again.tolerance (pipe_at again p)) (pipe_breaks_kept case p))
+    (left_empty ps ns (left_empty (either ps ns) qs e)))
+    (all_moved (node_rules case) (node_rules again) (length case.nodes) (length again.nodes) (count_nodes case)
+    (λ k. moved (node_at case k).line (node_at again k).line (breaks_node case (node_at case k) (node_ends case k)) (breaks_node again (node_at again k) (node_ends again k)) (node_breaks_kept case k))
+    (right_empty ps ns (left_empty (either ps ns) qs e))))
     (all_moved (probe_rules case) (probe_rules again) (length case.probes) (length again.probes) (count_probes case)
-      (λ q. moved (probe_at case q).line (probe_at again q).line (λ number. (number == 16) && is_off case (probe_at case q).at) (λ number. (number == 16) && is_off again (probe_at again q).at) (probe_breaks_kept case q))
-      (right_empty (either ps ns) qs e))
+    (λ q. moved (probe_at case q).line (probe_at again q).line (λ number. (number == 16) && is_off case (probe_at case q).at) (λ number. (number == 16) && is_off again (probe_at again q).at) (probe_breaks_kept case q))
+    (right_empty (either ps ns) qs e))
 
 size_empty : (case : Case) → IsEmpty (size_rules case) → IsEmpty (size_rules (renumbered case))
 unfolding size_rules

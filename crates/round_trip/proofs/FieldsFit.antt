@@ -1,11 +1,10 @@
 -- The fields of the written text break no rule of a field.
-use Rattle.std.proofs.Common.{ℕ, zero, suc, ◌+◌, ◌<◌, ◌≤◌, ◌^◌, ◌≡◌, ◌==◌, ◌&&◌, ◌||◌, not, nat_lt, Bool, true, false, IsTrue, ℤ, pos, neg_ℤ, ◌≤ℤ◌, int_le, unsigned_abs, Some, Ok, List, [], ◌∷◌, length, refl, arith}
+use Rattle.std.proofs.Common.{ℕ, ◌<◌, ◌≤◌, ◌^◌, ◌≡◌, ◌==◌, ◌&&◌, ◌||◌, not, nat_lt, Bool, true, false, ℤ, pos, neg_ℤ, ◌≤ℤ◌, int_le, unsigned_abs, Ok, List, ◌∷◌, length, refl, arith}
 use Rattle.std.proofs.lemmas.Bool.{and_right, or_from, le-ltb}
 use Rattle.std.proofs.lemmas.Int.{ints}
 use Rattle.std.specs.List.{list_any}
 use Rattle.fixed_num.specs.Written.{written}
 use Rattle.case_model.specs.declared.cases.Case.{Case}
-use Rattle.case_model.specs.declared.cases.Table.{Table}
 use Rattle.case_model.specs.declared.cases.TableKind.{TableKind}
 use Rattle.case_model.specs.declared.cases.Value.{Value}
 use Rattle.case_model.specs.declared.cases.Value.TheVariants.{Fixed, ByTable}
@@ -13,15 +12,15 @@ use Rattle.case_model.specs.Limits.{IsWithin, IsTableOf, IsValue}
 use Rattle.case_lines.specs.declared.quantities.Quantity.{Quantity}
 use Rattle.case_lines.specs.declared.fields.FieldKind.{FieldKind}
 use Rattle.case_lines.specs.declared.fields.FieldKind.TheVariants.{NewName, NodeName, PipeName, Reference, Number, Value as ValueField}
-use Rattle.case_lines.specs.Quantities.{limits, quantity_in, is_spelt, is_outside}
-use Rattle.case_lines.specs.Fields.{is_name, is_marked, is_reference}
+use Rattle.case_lines.specs.Quantities.{limits, is_spelt, is_outside}
+use Rattle.case_lines.specs.Fields.{is_name, is_reference}
 use Rattle.case_lines.specs.Alone.{breaks_name, breaks_reference, breaks_number, breaks_field}
 use Rattle.case_rules.specs.declared.parts.Part.TheVariants.{ATable, ANode, APipe}
 use Rattle.case_rules.specs.Said.{defines_part}
 use Rattle.case_rules.specs.Among.{is_unknown}
 use Rattle.case_writing.specs.CaseText.{name_of_table, name_of_node, name_of_pipe, value_text, reference_text}
 use Rattle.round_trip.specs.Writable.{IsNameText}
-use Rattle.round_trip.proofs.Amounts.{IsSmall, quantity_back, unmarked, small_above, small_between}
+use Rattle.round_trip.proofs.Amounts.{IsSmall, quantity_back, unmarked, small_above}
 
 -- a field that breaks no rule by itself, nor among these lines
 pub record IsFit (all : List (List (List ℕ))) (kind : FieldKind) (text : List ℕ) : Type 0 where

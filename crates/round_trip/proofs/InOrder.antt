@@ -1,5 +1,5 @@
 -- The parts that lines say, in the order of the lines.
-use Rattle.std.proofs.Common.{ℕ, suc, ◌+◌, ◌≡◌, Option, Some, None, List, [], ◌∷◌, ◌++◌, map, length, ap, ◌∙◌, refl, arith}
+use Rattle.std.proofs.Common.{ℕ, suc, ◌+◌, ◌≡◌, Option, Some, None, List, [], ◌∷◌, ◌++◌, map, length, ap, ◌∙◌, arith}
 use Rattle.std.specs.List.{cons_option, AllByRecursion}
 
 -- the parts that lines say, by what one line says, the first with this number

@@ -1,10 +1,9 @@
 -- The names that a case uses, and the lines of its written text that define them.
-use Rattle.std.proofs.Common.{ℕ, zero, suc, ◌+◌, ◌<◌, ◌≤◌, ◌≡◌, ◌==◌, ◌&&◌, ◌||◌, nat_lt, Bool, true, false, Some, List, [], ◌∷◌, ◌++◌, map, length, get_or, subst, sym, ap, ◌∙◌, refl, arith, length-append}
-use Rattle.std.proofs.lemmas.Bool.{and_from, or_left, or_right, eq-eqb, lt-ltb}
+use Rattle.std.proofs.Common.{ℕ, zero, suc, ◌+◌, ◌<◌, ◌≡◌, Bool, true, List, [], ◌∷◌, ◌++◌, map, length, get_or, subst, ap, ◌∙◌, refl, arith, length-append}
+use Rattle.std.proofs.lemmas.Bool.{or_left, or_right, eq-eqb, lt-ltb}
 use Rattle.std.proofs.lemmas.List.{get_or_append_left, get_or-append-add, get_or-map}
-use Rattle.std.proofs.lemmas.List.Folds.{list_any-append, list_any_at}
+use Rattle.std.proofs.lemmas.List.Folds.{list_any-append}
 use Rattle.std.specs.List.{list_any, All}
-use Rattle.std.specs.Str.{bytes_eq}
 use Rattle.case_model.specs.declared.cases.Case.{Case}
 use Rattle.case_model.specs.declared.cases.Table.{Table}
 use Rattle.case_model.specs.declared.cases.TableKind.{TableKind}
@@ -12,12 +11,10 @@ use Rattle.case_model.specs.declared.cases.Node.{Node}
 use Rattle.case_model.specs.declared.cases.Pipe.{Pipe}
 use Rattle.case_model.specs.Limits.{IsTableOf}
 use Rattle.case_model.specs.Parts.{no_table, no_node, no_pipe}
-use Rattle.case_lines.specs.Fields.{field}
-use Rattle.case_rules.specs.declared.parts.Part.{Part}
 use Rattle.case_rules.specs.declared.parts.Part.TheVariants.{ATable, ANode, APipe}
-use Rattle.case_rules.specs.Said.{said, named_by, has_number, part_number, defines_numbered, defines_part}
+use Rattle.case_rules.specs.Said.{part_number, defines_numbered, defines_part}
 use Rattle.case_writing.specs.CaseText.{name_of_table, name_of_node, name_of_pipe}
-use Rattle.round_trip.specs.Lines.{settings_lines, table_line, node_line, pipe_line, probe_line, case_lines}
+use Rattle.round_trip.specs.Lines.{settings_lines, table_line, node_line, pipe_line, case_lines}
 use Rattle.round_trip.specs.Writable.{IsNameText, case_names}
 use Rattle.round_trip.proofs.CaseBack.{table_rest, node_rest, pipe_rest, probe_rest, lines_right, length-names}
 use Rattle.round_trip.proofs.Directives.{of_table, of_node, of_pipe}
@@ -87,13 +84,13 @@ node_known : (case : Case) (k : ℕ) → k < length case.nodes → list_any (def
 node_known case k l =
     let test = defines_part ANode (name_of_node case.nodes k) in
     in_case test case (in_back test (map table_line case.tables) (node_rest case)
-      (in_front test (map (node_line case.tables) case.nodes) (pipe_rest case) (among test (node_line case.tables) case.nodes k no_node l (node_own case.tables (get_or case.nodes k no_node)))))
+    (in_front test (map (node_line case.tables) case.nodes) (pipe_rest case) (among test (node_line case.tables) case.nodes k no_node l (node_own case.tables (get_or case.nodes k no_node)))))
 
 pipe_known : (case : Case) (p : ℕ) → p < length case.pipes → list_any (defines_part APipe (name_of_pipe case.pipes p)) (case_lines case) ≡ true
 pipe_known case p l =
     let test = defines_part APipe (name_of_pipe case.pipes p) in
     in_case test case (in_back test (map table_line case.tables) (node_rest case) (in_back test (map (node_line case.tables) case.nodes) (pipe_rest case)
-        (in_front test (map (pipe_line case.nodes) case.pipes) (probe_rest case) (among test (pipe_line case.nodes) case.pipes p no_pipe l (pipe_own case.nodes (get_or case.pipes p no_pipe))))))
+    (in_front test (map (pipe_line case.nodes) case.pipes) (probe_rest case) (among test (pipe_line case.nodes) case.pipes p no_pipe l (pipe_own case.nodes (get_or case.pipes p no_pipe))))))
 
 pub names_known : (case : Case) → AreNamed case → AreKnown (case_lines case) case
 names_known case n = record {

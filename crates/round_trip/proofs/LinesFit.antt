@@ -1,10 +1,8 @@
 -- The lines of the parts of a written case break no rule by themselves.
-use Rattle.std.proofs.Common.{inl, inr, ℕ, zero, suc, ◌+◌, ◌-◌, ◌*◌, ◌/◌, ◌%◌, ◌<◌, ◌≤◌, ◌^◌, ◌≡◌, ◌⊎◌, ◌==◌, ◌&&◌, ◌||◌, not, nat_lt, nat_le, Bool, true, false, cond, ℤ, pos, neg_ℤ, ◌≤ℤ◌, ◌<ℤ◌, ◌+ℤ◌, int_le, int_lt, unsigned_abs, Some, List, [], ◌∷◌, ◌++◌, length, get_or, subst, sym, ap, ◌∙◌, refl, arith}
-use Rattle.std.proofs.lemmas.Bool.{and_from, eq-eqb, ne_eqb, le-leb, le-ltb, cases_eq, eqb-true, eqb-false, false_from_ne_true}
-use Rattle.std.proofs.lemmas.Bool.Decides.{nat_tests, Decides-int_eq}
+use Rattle.std.proofs.Common.{inl, inr, ℕ, zero, suc, ◌+◌, ◌-◌, ◌*◌, ◌/◌, ◌%◌, ◌<◌, ◌≤◌, ◌≡◌, ◌⊎◌, ◌==◌, nat_le, Bool, true, false, ℤ, pos, ◌≤ℤ◌, ◌<ℤ◌, int_le, int_lt, Some, List, [], ◌∷◌, ◌++◌, length, get_or, subst, sym, refl, arith}
+use Rattle.std.proofs.lemmas.Bool.{and_from, eq-eqb, ne_eqb, le-leb, le-ltb, cases_eq}
+use Rattle.std.proofs.lemmas.Bool.Decides.{Decides-int_eq}
 use Rattle.std.proofs.lemmas.Int.{ints}
-use Rattle.std.proofs.lemmas.List.FromFn.{length-range_with_len, get_or-range_with_len}
-use Rattle.std.specs.Ordering.{int_eq}
 use Rattle.std.specs.List.{flat_map, list_all, range_with_len, All}
 use Rattle.fixed_num.specs.Written.{written}
 use Rattle.case_model.specs.declared.cases.Case.{Case}
@@ -18,20 +16,19 @@ use Rattle.case_model.specs.declared.cases.Pipe.{Pipe}
 use Rattle.case_model.specs.declared.cases.Probe.{Probe}
 use Rattle.case_model.specs.declared.cases.ProbeAt.{ProbeAt}
 use Rattle.case_model.specs.declared.cases.ProbeAt.TheVariants.{OnPipe, OnNode}
-use Rattle.case_model.specs.Limits.{IsWithin, IsHead, IsFlow, IsVolume, IsEntry, IsInOrder, RisesBy, Falls, entry_at, least_entries, most_entries, IsTable, IsKind, IsNode, IsPipe, IsJoined, IsSpot}
+use Rattle.case_model.specs.Limits.{IsWithin, IsHead, IsFlow, IsEntry, IsInOrder, entry_at, least_entries, most_entries, IsTable, IsKind, IsNode, IsPipe, IsJoined, IsSpot}
 use Rattle.case_lines.specs.declared.words.NodeWord.{NodeWord}
 use Rattle.case_lines.specs.declared.words.Directive.{Directive}
-use Rattle.case_lines.specs.declared.words.Directive.TheVariants.{OfSingle, OfTable, OfNode, OfPipe, OfProbe, OfWatch}
+use Rattle.case_lines.specs.declared.words.Directive.TheVariants.{OfTable, OfNode, OfPipe}
 use Rattle.case_lines.specs.declared.quantities.Quantity.TheVariants.{Time, Head, Flow, Opening, SpeedRatio, CurveFlow, CurveRise, Volume, Elevation, ValveFlow, ValveLoss, Area, Length, Diameter, WaveSpeed, Friction, PipePlace}
 use Rattle.case_lines.specs.declared.fields.FieldKind.{FieldKind}
-use Rattle.case_lines.specs.declared.fields.FieldKind.TheVariants.{NewName, NodeName, PipeName, Reference, Number, Value as ValueField}
+use Rattle.case_lines.specs.declared.fields.FieldKind.TheVariants.{NewName, NodeName, Number}
 use Rattle.case_lines.specs.Fields.{field, first_quantity, second_quantity, node_fields, pipe_fields, probe_fields, field_kind, has_count, has_too_many}
-use Rattle.case_lines.specs.Tables.{pair_count, pair_at, rises, falls, may_follow, may_begin, follow, is_ordered, is_disordered}
+use Rattle.case_lines.specs.Tables.{rises, falls, may_follow, may_begin, follow, is_ordered, is_disordered}
 use Rattle.case_rules.specs.Said.{said}
 use Rattle.case_writing.specs.CaseText.{name_of_node, name_of_pipe, count_text, first_places, second_places, entry_fields, kind_fields, pipe_names, pipe_numbers, spot_fields}
 use Rattle.round_trip.specs.Lines.{table_line, node_line, pipe_line, probe_line}
 use Rattle.round_trip.specs.Writable.{IsNameText}
-use Rattle.round_trip.proofs.Amounts.{IsSmall}
 use Rattle.round_trip.proofs.Directives.{kind_word, spot_directive, of_table, of_node, of_pipe, of_probe}
 use Rattle.round_trip.proofs.TablesBack.{first_field, second_field, length_pairs, pair_back, pairs_counted}
 use Rattle.round_trip.proofs.FieldsFit.{IsFit, AreKnown, IsAmount, new_fit, node_fit, pipe_fit, reference_fit, amount_fit, value_fit, above, sized}
@@ -343,9 +340,9 @@ unfolding follow
 follow_fit kind word name points e h =
     let d : ℤ × ℤ = (pos 0, pos 0) in
     all_from _ 0 (length points - 1) (λ k a l.
-        let m : k + 1 < length points = omega arith in
-        let n : k < length points = omega arith in
-        rw (pair_back kind word name points k d n (e k d n), pair_back kind word name points (k + 1) d m (e (k + 1) d m)) (follows_in kind points k h m))
+    let m : k + 1 < length points = omega arith in
+    let n : k < length points = omega arith in
+    rw (pair_back kind word name points k d n (e k d n), pair_back kind word name points (k + 1) d m (e (k + 1) d m)) (follows_in kind points k h m))
 
 ordered_fit : (kind : TableKind) (word name : List ℕ) (points : List (ℤ × ℤ)) → 1 ≤ length points → All (IsEntry kind) points → IsInOrder kind points → is_ordered kind (word ∷ name ∷ flat_map (entry_fields kind) points) ≡ true
 unfolding is_ordered

@@ -1,5 +1,5 @@
 -- The nodes that the lines of the written text say.
-use Rattle.std.proofs.Common.{ℕ, ◌+◌, ◌<◌, ◌≤◌, ◌^◌, ◌≡◌, ℤ, pos, unsigned_abs, Some, List, [], ◌∷◌, length, get_or, ap, refl, arith}
+use Rattle.std.proofs.Common.{ℕ, ◌+◌, ◌<◌, ◌^◌, ◌≡◌, ℤ, pos, Some, List, [], ◌∷◌, length, ap, refl, arith}
 use Rattle.std.proofs.lemmas.List.Elements.{All-weaker, recursion_from_All}
 use Rattle.std.specs.List.{All, AllByRecursion, cons_option}
 use Rattle.fixed_num.specs.Written.{written}
@@ -14,9 +14,9 @@ use Rattle.case_model.specs.declared.cases.NodeKind.TheVariants.{Reservoir as Re
 use Rattle.case_model.specs.Limits.{IsWithin, IsHead, IsFlow, IsValue, IsKind, IsNode, IsVolume}
 use Rattle.case_lines.specs.declared.quantities.Quantity.{Quantity}
 use Rattle.case_lines.specs.declared.quantities.Quantity.TheVariants.{Head, Flow, Opening, SpeedRatio, Volume, Elevation, ValveFlow, ValveLoss, Area}
-use Rattle.case_lines.specs.Quantities.{limits, amount}
+use Rattle.case_lines.specs.Quantities.{limits}
 use Rattle.case_writing.specs.CaseText.{name_of_table, value_text, kind_fields}
-use Rattle.netfile.specs.Built.{table_index, value_said, kind_said, node_by, node_said, nodes_from}
+use Rattle.netfile.specs.Built.{table_index, value_said, kind_said, node_said, nodes_from}
 use Rattle.round_trip.specs.Lines.{node_line}
 use Rattle.round_trip.specs.Renumbered.{nodes_on}
 use Rattle.round_trip.proofs.Amounts.{IsSmall, amount_back, small_above, unmarked}
@@ -71,14 +71,28 @@ kind_back read tables word name level (ReservoirKind head) f h = ap ReservoirKin
 kind_back read tables word name level (JunctionKind demand start) f h =
     rw (value_back read tables Flow demand f (given_value IsFlow Flows tables demand flow_small h.0), amount_back Head start (head_small start h.1)) refl
 kind_back read tables word name level (DischargeKind q0 h0 outlet opening start) f h =
-    rw (amount_back ValveFlow q0 (valve_small q0 h.0.flow), amount_back ValveLoss h0 (loss_small h0 h.0.loss), amount_back Head outlet (head_small outlet h.1),
-      value_back read tables Opening opening f (given_value (IsWithin (pos 0) (pos 1_000_000)) Openings tables opening opening_small h.2), amount_back Head start (head_small start h.3)) refl
+    rw (
+      amount_back ValveFlow q0 (valve_small q0 h.0.flow),
+      amount_back ValveLoss h0 (loss_small h0 h.0.loss),
+      amount_back Head outlet (head_small outlet h.1),
+      value_back read tables Opening opening f (given_value (IsWithin (pos 0) (pos 1_000_000)) Openings tables opening opening_small h.2),
+      amount_back Head start (head_small start h.3),
+    ) refl
 kind_back read tables word name level (InlineKind q0 h0 opening start start2) f h =
-    rw (amount_back ValveFlow q0 (valve_small q0 h.0.flow), amount_back ValveLoss h0 (loss_small h0 h.0.loss),
-      value_back read tables Opening opening f (given_value (IsWithin (pos 0) (pos 1_000_000)) Openings tables opening opening_small h.1), amount_back Head start (head_small start h.2), amount_back Head start2 (head_small start2 h.3)) refl
+    rw (
+      amount_back ValveFlow q0 (valve_small q0 h.0.flow),
+      amount_back ValveLoss h0 (loss_small h0 h.0.loss),
+      value_back read tables Opening opening f (given_value (IsWithin (pos 0) (pos 1_000_000)) Openings tables opening opening_small h.1),
+      amount_back Head start (head_small start h.2),
+      amount_back Head start2 (head_small start2 h.3),
+    ) refl
 kind_back read tables word name level (PumpKind curve speed start start2) f h =
-    rw (f.index curve h.0.there, value_back read tables SpeedRatio speed f (given_value (IsWithin (pos 0) (pos 2_000_000)) Speeds tables speed ratio_small h.1),
-      amount_back Head start (head_small start h.2), amount_back Head start2 (head_small start2 h.3)) refl
+    rw (
+      f.index curve h.0.there,
+      value_back read tables SpeedRatio speed f (given_value (IsWithin (pos 0) (pos 2_000_000)) Speeds tables speed ratio_small h.1),
+      amount_back Head start (head_small start h.2),
+      amount_back Head start2 (head_small start2 h.3),
+    ) refl
 kind_back read tables word name level (TankKind area start) f h =
     rw (amount_back Area area (area_small area h.0), amount_back Head start (head_small start h.1)) refl
 kind_back read tables word name level (VesselKind gas volume) f h =

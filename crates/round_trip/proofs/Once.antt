@@ -1,6 +1,6 @@
 -- What lines name is named once: no name is defined twice, and no single directive stands twice.
-use Rattle.std.proofs.Common.{inl, inr, ℕ, zero, suc, ◌+◌, ◌<◌, ◌≤◌, ◌≡◌, ◌&&◌, ◌||◌, not, nat_lt, Bool, true, false, cond, Some, None, List, [], ◌∷◌, ◌++◌, map, take, length, get_or, codes, sym, ap, ◌∙◌, refl, arith, length-append}
-use Rattle.std.proofs.lemmas.Bool.{and_parts, and_right, and_left, or_cases, both_ways, false_from_ne_true, lt-ltb, not-true}
+use Rattle.std.proofs.Common.{inl, inr, ℕ, zero, suc, ◌+◌, ◌<◌, ◌≡◌, ◌&&◌, not, Bool, true, false, cond, Some, List, [], ◌∷◌, ◌++◌, map, take, length, get_or, codes, sym, ap, ◌∙◌, refl, arith, length-append}
+use Rattle.std.proofs.lemmas.Bool.{and_parts, or_cases, both_ways, false_from_ne_true, lt-ltb, not-true}
 use Rattle.std.proofs.lemmas.List.{append_assoc, append-nil, get_or_append_left, get_or-append-add, get_or_at}
 use Rattle.std.proofs.lemmas.List.Concat.{flat_map-append}
 use Rattle.std.proofs.lemmas.List.Folds.{list_any_at}
@@ -14,15 +14,13 @@ use Rattle.case_model.specs.declared.cases.Pipe.{Pipe}
 use Rattle.case_model.specs.declared.cases.Probe.{Probe}
 use Rattle.case_model.specs.declared.cases.ProbeAt.{ProbeAt}
 use Rattle.case_model.specs.declared.cases.ProbeAt.TheVariants.{OnPipe, OnNode}
-use Rattle.case_lines.specs.declared.words.Directive.{Directive}
 use Rattle.case_lines.specs.Fields.{field}
 use Rattle.case_lines.specs.Words.{single_of, table_of, node_of, directive_of}
 use Rattle.case_rules.specs.Said.{line_at, said, named_by, is_some_part, is_definition, defines, is_single_directive, is_single, is_single_of}
-use Rattle.case_writing.specs.CaseText.{pipe_names, pipe_numbers}
 use Rattle.round_trip.specs.Lines.{settings_lines, table_line, node_line, pipe_line, probe_line, case_lines}
 use Rattle.round_trip.specs.Writable.{case_names, AreApart}
-use Rattle.round_trip.proofs.CaseBack.{table_rest, node_rest, pipe_rest, probe_rest, lines_right}
-use Rattle.round_trip.proofs.Directives.{kind_word, spot_directive, of_table, of_node, of_pipe, of_probe}
+use Rattle.round_trip.proofs.CaseBack.{table_rest, lines_right}
+use Rattle.round_trip.proofs.Directives.{spot_directive, of_table, of_node, of_pipe, of_probe}
 use Rattle.round_trip.proofs.Indices.{same_name}
 
 -- what one line names, by a test and by the field that says it
@@ -127,8 +125,12 @@ unfolding case_names
 names_defined case =
     ap (λ (lines : List (List (List ℕ))). flat_map (named is_definition 1) lines) (lines_right case) ∙ settings_define case (table_rest case)
     ∙ four (named is_definition 1) (map table_line case.tables) (map (node_line case.tables) case.nodes) (map (pipe_line case.nodes) case.pipes) (map (probe_line case.pipes case.nodes) case.probes)
-    ∙ rw (each_names is_definition 1 table_line (λ t. t.name) table_defines case.tables, each_names is_definition 1 (node_line case.tables) (λ n. n.name) (node_defines case.tables) case.nodes,
-      each_names is_definition 1 (pipe_line case.nodes) (λ p. p.name) (pipe_defines case.nodes) case.pipes, none_names is_definition 1 (probe_line case.pipes case.nodes) (probe_defines case.pipes case.nodes) case.probes)
+    ∙ rw (
+      each_names is_definition 1 table_line (λ t. t.name) table_defines case.tables,
+      each_names is_definition 1 (node_line case.tables) (λ n. n.name) (node_defines case.tables) case.nodes,
+      each_names is_definition 1 (pipe_line case.nodes) (λ p. p.name) (pipe_defines case.nodes) case.pipes,
+      none_names is_definition 1 (probe_line case.pipes case.nodes) (probe_defines case.pipes case.nodes) case.probes,
+    )
     (append-nil (map (λ (t : Table). t.name) case.tables ++ map (λ (n : Node). n.name) case.nodes ++ map (λ (p : Pipe). p.name) case.pipes))
 
 -- which lines have a single directive
@@ -163,9 +165,13 @@ singles_said : (case : Case) → flat_map (named is_single 0) (case_lines case) 
 singles_said case =
     ap (λ (lines : List (List (List ℕ))). flat_map (named is_single 0) lines) (lines_right case) ∙ settings_single case (table_rest case)
     ∙ ap (λ (xs : List (List ℕ)). single_words ++ xs) (
-      four (named is_single 0) (map table_line case.tables) (map (node_line case.tables) case.nodes) (map (pipe_line case.nodes) case.pipes) (map (probe_line case.pipes case.nodes) case.probes)
-      ∙ rw (none_names is_single 0 table_line table_single case.tables, none_names is_single 0 (node_line case.tables) (node_single case.tables) case.nodes,
-        none_names is_single 0 (pipe_line case.nodes) (pipe_single case.nodes) case.pipes, none_names is_single 0 (probe_line case.pipes case.nodes) (probe_single case.pipes case.nodes) case.probes) refl
+    four (named is_single 0) (map table_line case.tables) (map (node_line case.tables) case.nodes) (map (pipe_line case.nodes) case.pipes) (map (probe_line case.pipes case.nodes) case.probes)
+    ∙ rw (
+      none_names is_single 0 table_line table_single case.tables,
+      none_names is_single 0 (node_line case.tables) (node_single case.tables) case.nodes,
+      none_names is_single 0 (pipe_line case.nodes) (pipe_single case.nodes) case.pipes,
+      none_names is_single 0 (probe_line case.pipes case.nodes) (probe_single case.pipes case.nodes) case.probes,
+    ) refl
     )
 
 -- that no two texts are equal, as a test

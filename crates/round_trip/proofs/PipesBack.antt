@@ -1,8 +1,7 @@
 -- The pipes and probes that the lines of the written text say.
-use Rattle.std.proofs.Common.{ℕ, ◌+◌, ◌<◌, ◌≤◌, ◌^◌, ◌≡◌, ℤ, pos, unsigned_abs, Some, List, [], ◌∷◌, length, get_or, ap, refl, arith}
+use Rattle.std.proofs.Common.{ℕ, ◌+◌, ◌<◌, ◌≤◌, ◌^◌, ◌≡◌, pos, unsigned_abs, Some, List, [], ◌∷◌, length, ap, refl, arith}
 use Rattle.std.proofs.lemmas.List.Elements.{All-weaker, recursion_from_All}
 use Rattle.std.specs.List.{All, AllByRecursion, cons_option}
-use Rattle.fixed_num.specs.Written.{written}
 use Rattle.case_model.specs.declared.cases.Node.{Node}
 use Rattle.case_model.specs.declared.cases.Pipe.{Pipe}
 use Rattle.case_model.specs.declared.cases.Probe.{Probe}
@@ -12,7 +11,7 @@ use Rattle.case_model.specs.Limits.{IsPipe, IsJoined, IsSpot}
 use Rattle.case_lines.specs.declared.quantities.Quantity.TheVariants.{Length, Diameter, WaveSpeed, Friction, Flow, PipePlace}
 use Rattle.case_lines.specs.Quantities.{amount}
 use Rattle.case_writing.specs.CaseText.{name_of_node, name_of_pipe, count_text, spot_fields}
-use Rattle.netfile.specs.Built.{node_index, pipe_index, pipe_of, pipe_by, pipe_said, pipes_from, probe_by, probe_said, probes_from}
+use Rattle.netfile.specs.Built.{node_index, pipe_index, pipe_of, pipe_said, pipes_from, probe_by, probe_said, probes_from}
 use Rattle.round_trip.specs.Lines.{pipe_line, probe_line}
 use Rattle.round_trip.specs.Renumbered.{pipes_on, probes_on}
 use Rattle.round_trip.proofs.Amounts.{IsSmall, amount_back, small_above}

@@ -1,15 +1,11 @@
 -- The lines of a written case break no rule of lines.
-use Rattle.std.proofs.Common.{inl, inr, ℕ, zero, suc, ◌+◌, ◌-◌, ◌<◌, ◌≤◌, ◌^◌, ◌≡◌, ◌==◌, ◌&&◌, ◌||◌, not, nat_lt, nat_le, Bool, true, false, cond, IsTrue, pos, Some, Option, List, [], ◌∷◌, ◌++◌, map, take, length, get_or, codes, subst, sym, ap, ◌∙◌, refl, arith}
-use Rattle.std.proofs.lemmas.Bool.{and_left, and_right, and_parts, or_from, or_cases, ne_eqb, eqb-true, leb-true, ltb-true, both_ways, false_from_ne_true}
+use Rattle.std.proofs.Common.{inl, inr, ℕ, zero, suc, ◌+◌, ◌-◌, ◌<◌, ◌≤◌, ◌^◌, ◌≡◌, ◌==◌, ◌&&◌, ◌||◌, not, nat_lt, nat_le, Bool, true, false, pos, Some, List, [], ◌∷◌, ◌++◌, map, take, length, codes, subst, ap, refl, arith}
+use Rattle.std.proofs.lemmas.Bool.{and_right, and_parts, or_from, or_cases, ne_eqb, eqb-true, leb-true, ltb-true, both_ways}
 use Rattle.std.proofs.lemmas.Int.{ints}
 use Rattle.std.proofs.lemmas.List.Elements.{All-nil, All-append, All-from_recursion, All-map, All-weaker}
 use Rattle.std.specs.List.{list_any, range_with_len, All}
 use Rattle.fixed_num.specs.Written.{written}
 use Rattle.case_model.specs.declared.cases.Case.{Case}
-use Rattle.case_model.specs.declared.cases.Table.{Table}
-use Rattle.case_model.specs.declared.cases.Node.{Node}
-use Rattle.case_model.specs.declared.cases.Pipe.{Pipe}
-use Rattle.case_model.specs.declared.cases.Probe.{Probe}
 use Rattle.case_model.specs.Limits.{IsWithin, IsTable, IsNode, IsPipe, IsJoined, IsSpot, IsRead}
 use Rattle.case_model.specs.Sets.{IsEmpty}
 use Rattle.case_lines.specs.declared.words.Single.{Single}
@@ -27,13 +23,13 @@ use Rattle.case_rules.specs.Among.{is_unknown, uses_unknown, breaks_counted as b
 use Rattle.case_writing.specs.CaseText.{count_text}
 use Rattle.round_trip.specs.Lines.{settings_lines, table_line, node_line, pipe_line, probe_line, case_lines}
 use Rattle.round_trip.specs.Writable.{IsNameText, IsWritable}
-use Rattle.round_trip.proofs.Amounts.{IsSmall, small_between}
+use Rattle.round_trip.proofs.Amounts.{small_between}
 use Rattle.round_trip.proofs.CaseBack.{table_rest, node_rest, pipe_rest, probe_rest, lines_right}
 use Rattle.round_trip.proofs.Directives.{kind_word, spot_directive}
-use Rattle.round_trip.proofs.FieldsFit.{IsFit, AreKnown, IsAmount, amount_fit, above}
+use Rattle.round_trip.proofs.FieldsFit.{IsFit, IsAmount, amount_fit, above}
 use Rattle.round_trip.proofs.LinesFit.{IsFitLine, table_line_fit, node_line_fit, pipe_line_fit, probe_line_fit}
 use Rattle.round_trip.proofs.KnownBack.{AreNamed, parts_named, names_known}
-use Rattle.round_trip.proofs.Once.{named, defined_once, single_once, names_once, singles_once}
+use Rattle.round_trip.proofs.Once.{defined_once, single_once, names_once, singles_once}
 
 -- a test that fails at each place of a range fails on the range
 none_of_range : (p : ℕ → Bool) (i n : ℕ) → ((k : ℕ) → i ≤ k → k < i + n → p k ≡ false) → list_any p (range_with_len i n) ≡ false
@@ -56,7 +52,7 @@ counted_unbroken : (all : List (List (List ℕ))) (d : Directive) (fields : List
 unfolding breaks_counted
 counted_unbroken all d fields number f =
     rw (fields_unbroken all d fields number f, f.few, f.ordered) (or_from (false || ((number == 10) && false)) ((number == 14) && is_readable d fields && false)
-      (or_from false ((number == 10) && false) refl (and_right (number == 10) false refl)) (and_right ((number == 14) && is_readable d fields) false refl))
+    (or_from false ((number == 10) && false) refl (and_right (number == 10) false refl)) (and_right ((number == 14) && is_readable d fields) false refl))
 
 known_unbroken : (all : List (List (List ℕ))) (d : Directive) (fields : List (List ℕ)) (number : ℕ) → IsFitLine all d fields → breaks_known (Some d) fields number ≡ false
 known_unbroken all d fields number f = rw f.count (counted_unbroken all d fields number f)
@@ -76,7 +72,7 @@ others_unbroken before all d fields number a b c =
     or_from (((number == 6) && (is_definition fields && list_any (defines (field fields 1)) before)) || ((number == 7) && uses_unknown all d fields (length fields - 1)))
     ((number == 9) && (is_single fields && list_any (is_single_of (field fields 0)) before))
     (or_from ((number == 6) && (is_definition fields && list_any (defines (field fields 1)) before)) ((number == 7) && uses_unknown all d fields (length fields - 1))
-      (and_right (number == 6) (is_definition fields && list_any (defines (field fields 1)) before) a) (and_right (number == 7) (uses_unknown all d fields (length fields - 1)) b))
+    (and_right (number == 6) (is_definition fields && list_any (defines (field fields 1)) before) a) (and_right (number == 7) (uses_unknown all d fields (length fields - 1)) b))
     (and_right (number == 9) (is_single fields && list_any (is_single_of (field fields 0)) before) c)
 
 among_unbroken : (before all : List (List (List ℕ))) (d : Directive) (fields : List (List ℕ)) (number : ℕ) → IsFitLine all d fields → (is_definition fields && list_any (defines (field fields 1)) before) ≡ false
@@ -230,12 +226,12 @@ parts_fit case h n =
     All-append fits (map table_line case.tables) (node_rest case)
     (each_line all (λ t. IsTable t × IsNameText t.name) table_line (λ t k. record { directive = OfTable t.kind; fit = table_line_fit all t k.0 k.1 }) case.tables (both IsTable (λ t. IsNameText t.name) case.tables h.tables n.tables))
     (All-append fits (map (node_line case.tables) case.nodes) (pipe_rest case)
-      (each_line all (λ x. IsNode case.tables x × IsNameText x.name) (node_line case.tables) (λ x k. record { directive = OfNode (kind_word x.kind); fit = node_line_fit all case x known k.0 k.1 }) case.nodes (both (IsNode case.tables) (λ x. IsNameText x.name) case.nodes h.nodes n.nodes))
-      (All-append fits (map (pipe_line case.nodes) case.pipes) (probe_rest case)
-        (each_line all (λ p. (IsPipe p × IsJoined (length case.nodes) p) × IsNameText p.name) (pipe_line case.nodes) (λ p k. record { directive = OfPipe; fit = pipe_line_fit all case p known k.0.0 k.0.1 k.1 }) case.pipes
-          (both (λ p. IsPipe p × IsJoined (length case.nodes) p) (λ p. IsNameText p.name) case.pipes (both IsPipe (IsJoined (length case.nodes)) case.pipes h.pipes h.joins) n.pipes))
-        (All-append fits (map (probe_line case.pipes case.nodes) case.probes) []
-          (each_line all (λ q. IsSpot (length case.pipes) (length case.nodes) q.at) (probe_line case.pipes case.nodes) (λ q k. record { directive = spot_directive q.at; fit = probe_line_fit all case q known k }) case.probes h.spots) (All-nil fits))))
+    (each_line all (λ x. IsNode case.tables x × IsNameText x.name) (node_line case.tables) (λ x k. record { directive = OfNode (kind_word x.kind); fit = node_line_fit all case x known k.0 k.1 }) case.nodes (both (IsNode case.tables) (λ x. IsNameText x.name) case.nodes h.nodes n.nodes))
+    (All-append fits (map (pipe_line case.nodes) case.pipes) (probe_rest case)
+    (each_line all (λ p. (IsPipe p × IsJoined (length case.nodes) p) × IsNameText p.name) (pipe_line case.nodes) (λ p k. record { directive = OfPipe; fit = pipe_line_fit all case p known k.0.0 k.0.1 k.1 }) case.pipes
+    (both (λ p. IsPipe p × IsJoined (length case.nodes) p) (λ p. IsNameText p.name) case.pipes (both IsPipe (IsJoined (length case.nodes)) case.pipes h.pipes h.joins) n.pipes))
+    (All-append fits (map (probe_line case.pipes case.nodes) case.probes) []
+    (each_line all (λ q. IsSpot (length case.pipes) (length case.nodes) q.at) (probe_line case.pipes case.nodes) (λ q k. record { directive = spot_directive q.at; fit = probe_line_fit all case q known k }) case.probes h.spots) (All-nil fits))))
 
 heading_first : (case : Case) → case_lines case ≡ (codes "surge" ∷ codes "1" ∷ []) ∷ (setting_lines case ++ table_rest case)
 unfolding settings_lines

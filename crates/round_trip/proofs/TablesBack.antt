@@ -1,20 +1,19 @@
 -- The tables that the lines of the written text say.
-use Rattle.std.proofs.Common.{ℕ, zero, suc, ◌+◌, ◌-◌, ◌*◌, ◌/◌, ◌<◌, ◌≤◌, ◌^◌, ◌≡◌, ℤ, pos, Some, None, Option, List, [], ◌∷◌, ◌++◌, map, length, get_or, sym, ap, ◌∙◌, refl, arith}
+use Rattle.std.proofs.Common.{ℕ, zero, suc, ◌+◌, ◌*◌, ◌<◌, ◌^◌, ◌≡◌, ℤ, pos, Some, List, [], ◌∷◌, length, get_or, sym, ap, refl, arith}
 use Rattle.std.proofs.lemmas.List.FromFn.{fill_by_all}
 use Rattle.std.proofs.lemmas.List.Elements.{All-weaker, recursion_from_All}
-use Rattle.std.specs.List.{flat_map, All, AllByRecursion, cons_option, range_with_len}
+use Rattle.std.specs.List.{flat_map, All, AllByRecursion, cons_option}
 use Rattle.fixed_num.specs.Written.{written}
 use Rattle.case_model.specs.declared.cases.Table.{Table}
 use Rattle.case_model.specs.declared.cases.TableKind.{TableKind}
 use Rattle.case_model.specs.declared.cases.TableKind.TheVariants.{Heads, Flows, Openings, Speeds, Curve, Gas}
 use Rattle.case_model.specs.Limits.{IsTable, IsEntry}
-use Rattle.case_lines.specs.declared.words.Directive.{Directive}
 use Rattle.case_lines.specs.declared.quantities.Quantity.TheVariants.{Time, Head, Flow, Opening, SpeedRatio, CurveFlow, CurveRise, Volume}
 use Rattle.case_lines.specs.Quantities.{amount}
-use Rattle.case_lines.specs.Fields.{field, first_quantity, second_quantity}
+use Rattle.case_lines.specs.Fields.{first_quantity, second_quantity}
 use Rattle.case_lines.specs.Tables.{pair_count, pair_at, pairs_of}
 use Rattle.case_writing.specs.CaseText.{first_places, second_places, entry_fields}
-use Rattle.netfile.specs.Built.{table_by, table_said, tables_from}
+use Rattle.netfile.specs.Built.{table_said, tables_from}
 use Rattle.round_trip.specs.Lines.{table_line}
 use Rattle.round_trip.specs.Renumbered.{tables_on}
 use Rattle.round_trip.proofs.Amounts.{IsSmall, amount_back, small_above}
