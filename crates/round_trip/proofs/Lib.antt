@@ -20,3 +20,9 @@ pub mod LinesFit
 pub mod KnownBack
 pub mod RulesBack
 pub mod LawBack
+pub mod Apart
+pub mod NamesGiven
+pub mod NamesKept
+pub mod AcceptedCase
+pub mod SameText
+pub mod AgainBack

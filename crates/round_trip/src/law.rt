@@ -1,5 +1,6 @@
-ghost use Rattle.std.specs.Prelude.{◌≡◌, ◌≤◌, Ok, length};
+ghost use Rattle.std.specs.Prelude.{◌≡◌, ◌≤◌, ℕ, List, Ok, length};
 ghost use Rattle.case_model.specs.declared.cases.Case.{Case};
+ghost use Rattle.case_model.specs.declared.meshes.Mesh.{Mesh};
 ghost use Rattle.case_model.specs.Division.{mesh_of};
 ghost use Rattle.case_model.specs.Refusals.{passes};
 ghost use Rattle.case_model.specs.Sets.{AreEmpty};
@@ -20,8 +21,16 @@ pub fn written_case_is_its_lines()
 {}
 
 /// The law of the round trip: the written text of a case, of at most 8 MiB, means that case with its
-/// parts on the lines where the text has them, and its mesh.
+/// parts on the lines where the text has them, and its mesh; so it is for each accepted text's case.
 pub fn written_text_reads_back()
     ensures verdict { (case : Case) → IsWritable case → length (case_text case) ≤ 8_388_608 → verdict (case_text case) ≡ Ok (renumbered case, mesh_of (renumbered case)) }
     ensures mesh { (case : Case) → IsWritable case → length (case_text case) ≤ 8_388_608 → verdict (case_text case) ≡ Ok (renumbered case, mesh_of case) }
+    ensures accepted { (bytes : List ℕ) (case : Case) (mesh : Mesh) → verdict bytes ≡ Ok (case, mesh) → length (case_text case) ≤ 8_388_608 → verdict (case_text case) ≡ Ok (renumbered case, mesh) }
+{}
+
+/// The law that a written text stays as it is: the case that it gives back has the same text, and
+/// that text gives the same case.
+pub fn written_text_is_steady()
+    ensures text { (case : Case) → case_text (renumbered case) ≡ case_text case }
+    ensures case { (case : Case) → renumbered (renumbered case) ≡ renumbered case }
 {}

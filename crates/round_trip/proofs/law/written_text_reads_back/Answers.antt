@@ -1,3 +1,4 @@
+use Rattle.round_trip.proofs.AgainBack.{accepted_back}
 use Rattle.round_trip.proofs.LawBack.{case_reads_back, mesh_reads_back}
 use Rattle.round_trip.proofs.law.written_text_reads_back.Goals as goal
 
@@ -6,3 +7,6 @@ returns-clause-verdict c = case_reads_back
 
 pub returns-clause-mesh : goal.returns-clause-mesh
 returns-clause-mesh c = mesh_reads_back
+
+pub returns-clause-accepted : goal.returns-clause-accepted
+returns-clause-accepted c = accepted_back
