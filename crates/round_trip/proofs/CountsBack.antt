@@ -17,7 +17,7 @@ use Rattle.round_trip.specs.Writable.{IsWritable}
 use Rattle.round_trip.proofs.CaseBack.{AreNamesApart, names_apart, tables_back, nodes_read, pipes_read, probes_read}
 use Rattle.round_trip.proofs.DivisionBack.{nodes_length, pipes_length, probes_length}
 
-tables_length : (line : ℕ) (ts : List Table) → length (tables_on line ts) ≡ length ts
+pub tables_length : (line : ℕ) (ts : List Table) → length (tables_on line ts) ≡ length ts
 tables_length line [] = refl
 tables_length line (t ∷ ts) = omega (arith, tables_length (line + 1) ts)
 

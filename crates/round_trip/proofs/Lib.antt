@@ -19,6 +19,7 @@ pub mod FieldsFit
 pub mod LinesFit
 pub mod KnownBack
 pub mod RulesBack
+pub mod SameText
 pub mod LawBack
 pub mod Apart
 pub mod NamesGiven

@@ -25,3 +25,10 @@ pub fn written_text_reads_back()
     ensures verdict { (case : Case) → IsWritable case → length (case_text case) ≤ 8_388_608 → verdict (case_text case) ≡ Ok (renumbered case, mesh_of (renumbered case)) }
     ensures mesh { (case : Case) → IsWritable case → length (case_text case) ≤ 8_388_608 → verdict (case_text case) ≡ Ok (renumbered case, mesh_of case) }
 {}
+
+/// The law that a written text stays as it is: the case that it gives back has the same text, and
+/// that text gives the same case.
+pub fn written_text_is_steady()
+    ensures text { (case : Case) → case_text (renumbered case) ≡ case_text case }
+    ensures case { (case : Case) → renumbered (renumbered case) ≡ renumbered case }
+{}
