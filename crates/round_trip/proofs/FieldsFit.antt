@@ -94,7 +94,7 @@ number_fit all q x s h = record { alone = number_unbroken q x s h; known = refl 
 
 fixed_fit : (all : List (List (List ℕ))) (q : Quantity) (kind : TableKind) (x : ℤ) → IsSmall x → IsWithin (limits q).least (limits q).most x → IsFit all (ValueField q kind) (written (limits q).places x)
 unfolding breaks_field is_unknown
-fixed_fit all q kind x s h = record { alone = λ number. rw (unmarked (limits q).places x s) (number_unbroken q x s h number); known = rw (unmarked (limits q).places x s) refl }
+fixed_fit all q kind x s h = record { alone = λ number. rw (unmarked (limits q).places x) (number_unbroken q x s h number); known = rw (unmarked (limits q).places x) refl }
 
 table_fit : (all : List (List (List ℕ))) (case : Case) (q : Quantity) (kind : TableKind) (t : ℕ) → AreKnown all case → IsTableOf kind case.tables t → IsFit all (ValueField q kind) (reference_text case.tables t)
 unfolding breaks_field is_unknown

@@ -38,7 +38,7 @@ pub record AreTablesFound (read tables : List Table) : Type 0 where
 
 value_back : (read tables : List Table) (q : Quantity) (v : Value) → AreTablesFound read tables → IsGiven tables v → value_said read q (value_text (limits q).places tables v) ≡ v
 unfolding value_said
-value_back read tables q (Fixed x) f h = rw (unmarked (limits q).places x h, amount_back q x h) refl
+value_back read tables q (Fixed x) f h = rw (unmarked (limits q).places x, amount_back q x h) refl
 value_back read tables q (ByTable t) f h = ap ByTable (f.index t h)
 
 pub head_small : (x : ℤ) → IsHead x → IsSmall x

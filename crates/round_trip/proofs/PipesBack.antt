@@ -88,7 +88,8 @@ pub probes_numbered : (line : ℕ) (qs : List Probe) → numbered probe_on line 
 probes_numbered line [] = refl
 probes_numbered line (q ∷ qs) = ap (λ (us : List Probe). probe_on line q ∷ us) (probes_numbered (line + 1) qs)
 
-both : {X : Type 0} (P Q : X → Type 0) (xs : List X) → All P xs → All Q xs → All (λ x. P x × Q x) xs
+-- two facts of each part
+pub both : {X : Type 0} (P Q : X → Type 0) (xs : List X) → All P xs → All Q xs → All (λ x. P x × Q x) xs
 both P Q xs f g k d l = (f k d l, g k d l)
 
 pub each_pipe : (read nodes : List Node) (ps : List Pipe) → AreNodesFound read nodes → All IsPipe ps → All (IsJoined (length nodes)) ps → AllByRecursion (λ p. (line : ℕ) → pipe_said read line (pipe_line nodes p) ≡ Some (pipe_on line p)) ps

@@ -29,6 +29,7 @@ use Rattle.round_trip.proofs.Directives.{kind_word, spot_directive}
 use Rattle.round_trip.proofs.FieldsFit.{IsFit, IsAmount, amount_fit, above}
 use Rattle.round_trip.proofs.LinesFit.{IsFitLine, table_line_fit, node_line_fit, pipe_line_fit, probe_line_fit}
 use Rattle.round_trip.proofs.KnownBack.{AreNamed, parts_named, names_known}
+use Rattle.round_trip.proofs.PipesBack.{both}
 use Rattle.round_trip.proofs.Once.{defined_once, single_once, names_once, singles_once}
 
 -- a test that fails at each place of a range fails on the range
@@ -212,9 +213,6 @@ settings_fit all case h = All-from_recursion (IsLineFit all) (setting_lines case
 )
 
 -- the lines of the parts
-both : {X : Type 0} (P Q : X → Type 0) (xs : List X) → All P xs → All Q xs → All (λ x. P x × Q x) xs
-both P Q xs f g k d l = (f k d l, g k d l)
-
 each_line : {A : Type 0} (all : List (List (List ℕ))) (P : A → Type 0) (line_of : A → List (List ℕ)) → ((a : A) → P a → IsLineFit all (line_of a)) → (parts : List A) → All P parts → All (IsLineFit all) (map line_of parts)
 each_line {A} all P line_of s parts h = All-map (IsLineFit all) line_of parts (All-weaker P (λ (a : A). IsLineFit all (line_of a)) s parts h)
 
