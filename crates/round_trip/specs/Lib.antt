@@ -1,0 +1,4 @@
+pub mod Lines
+pub mod Renumbered
+pub mod Writable
+pub mod Plain
