@@ -23,6 +23,7 @@ use Rattle.case_model.specs.Range.{InRange, InStateRange}
 use Rattle.case_model.specs.RangeLaws.{point_of-good, state_of-good}
 use Rattle.scheme.specs.Computable.{IsComputable}
 use Rattle.scheme.specs.Ends.{along}
+use Rattle.scheme.specs.Laws.{meaning_of}
 use Rattle.scheme.specs.Starts.{start_head, start_inflow, start_volume, start_growth, start_node, head_between, start_point}
 use Rattle.scheme.specs.Values.{value_at}
 use Rattle.scheme.proofs.Shares.{part_below, share_up, share_down}
@@ -190,3 +191,7 @@ point_starts case mesh fit p i h m =
     let long = fit.good.long p h in
     ap is_bad (point_of-good _ _ _ _ (point_good _ _ (between_heads _ _ i (reaches mesh p) (head_at case fit.read (pipe_at case p).first false j.first) (head_at case fit.read (pipe_at case p).last true j.last) (omega (arith, long)) m)
     (flow_in case fit.read p (inl l))))
+
+pub mesh_of_law : (case : Case) (mesh : Mesh) → (meaning_of case mesh).mesh ≡ mesh
+unfolding meaning_of
+mesh_of_law case mesh = refl

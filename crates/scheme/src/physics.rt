@@ -32,6 +32,7 @@ impl<'a> Physics<'a> {
         requires accepted { AreEmpty (passes case.now) }
         requires good { IsMesh mesh.now }
         ensures meaning { ⟦<Physics<'a> as Law>⟧.meaning result ≡ meaning_of case.now mesh.now }
+        ensures fits { (⟦<Physics<'a> as Law>⟧.meaning result).mesh ≡ mesh.now }
         ensures good_places { (p i : ℕ) → p < length mesh.now.pipes → i ≤ reaches mesh.now p → is_bad (start_point case.now mesh.now p i) ≡ false }
         ensures good_nodes { (k : ℕ) → k < length mesh.now.ends → is_bad_state (start_node case.now mesh.now k) ≡ false }
     {
