@@ -2,5 +2,6 @@ pub mod Divided
 pub mod EndPoints
 pub mod Gathered
 pub mod Shares
+pub mod Starting
 pub mod Suiting
 pub mod TimeTables

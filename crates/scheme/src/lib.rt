@@ -15,3 +15,6 @@ mod starts;
 mod values;
 
 pub use physics::Physics;
+
+#[cfg(test)]
+mod tests;

@@ -1,17 +1,19 @@
-ghost use Rattle.std.specs.Prelude.{◌≡◌, ◌<◌, ◌≤◌, ℕ, length};
+ghost use Rattle.std.specs.Prelude.{◌≡◌, ◌<◌, ◌≤◌, ℕ, false, length};
 ghost use Rattle.case_model.specs.Division.{mesh_of};
 ghost use Rattle.case_model.specs.Limits.{IsRead};
-ghost use Rattle.case_model.specs.Mesh.{IsMesh, ends_of};
+ghost use Rattle.case_model.specs.Mesh.{IsMesh, reaches, ends_of};
+ghost use Rattle.case_model.specs.Places.{is_bad, is_bad_state};
 ghost use Rattle.case_model.specs.Refusals.{passes};
 ghost use Rattle.case_model.specs.Sets.{AreEmpty};
 ghost use Rattle.scheme.specs.Computable.{IsComputable};
 ghost use Rattle.scheme.specs.Laws.{meaning_of};
 ghost use Rattle.scheme.specs.LawRange.{meaning_of-good};
+ghost use Rattle.scheme.specs.Starts.{start_point, start_node};
 ghost use Rattle.scheme.specs.ReadProps.{IsComputable-prop};
 
 use crate::interior::inner_law;
 use crate::node_laws::node_law;
-use crate::starts::{start_node, start_point};
+use crate::starts;
 use case_model::{Case, Law, Mesh, NodeState, Point};
 
 /// The hydraulics of a case over its mesh.
@@ -23,7 +25,7 @@ pub struct Physics<'a> {
 }
 
 impl<'a> Physics<'a> {
-    /// The law of a case over its mesh. Takes no memory.
+    /// The law of a case over its mesh, whose start is Good everywhere. Takes no memory.
     pub fn over(case: &'a Case, mesh: &'a Mesh) -> Physics<'a>
         requires read { IsRead case.now }
         requires same { mesh.now ≡ mesh_of case.now }
@@ -31,6 +33,9 @@ impl<'a> Physics<'a> {
         requires good { IsMesh mesh.now }
         ensures meaning { ⟦<Physics<'a> as Law>⟧.meaning result ≡ meaning_of case.now mesh.now }
         ensures ends { (k : ℕ) → k < length mesh.now.ends → length (ends_of mesh.now k) ≤ 8 }
+        ensures fits { (⟦<Physics<'a> as Law>⟧.meaning result).mesh ≡ mesh.now }
+        ensures good_places { (p i : ℕ) → p < length mesh.now.pipes → i ≤ reaches mesh.now p → is_bad (start_point case.now mesh.now p i) ≡ false }
+        ensures good_nodes { (k : ℕ) → k < length mesh.now.ends → is_bad_state (start_node case.now mesh.now k) ≡ false }
     {
         Physics { case, mesh }
     }
@@ -58,12 +63,12 @@ impl<'a> Law for Physics<'a> {
 
     #[tactic(auto, unfolding(crate::specs::Laws::meaning_of))]
     fn start_point(&self, pipe: u32, place: u32) -> Point {
-        start_point(self.case, self.mesh, pipe, place)
+        starts::start_point(self.case, self.mesh, pipe, place)
     }
 
     #[tactic(auto, unfolding(crate::specs::Laws::meaning_of))]
     fn start_node(&self, node: u32) -> NodeState {
-        start_node(self.case, self.mesh, node)
+        starts::start_node(self.case, self.mesh, node)
     }
 
     ghost in_range = { λ s. meaning_of-good s.case.now s.mesh.now };

@@ -65,7 +65,7 @@ fn value(case: &Case, value: &Value, step: u64) -> i64
     }
 }
 
-fn by_table(points: &[(i64, i64)], step: u64, dt: i64) -> i64
+pub(crate) fn by_table(points: &[(i64, i64)], step: u64, dt: i64) -> i64
     requires table { IsTimeTable points.now }
     requires least { pos 1 ≤ℤ dt }
     requires most { dt ≤ℤ pos 1_000_000 }
