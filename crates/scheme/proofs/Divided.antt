@@ -1,8 +1,7 @@
 -- The law of a case can be computed over the mesh of a case that division accepts.
-use Rattle.std.proofs.Common.{◌≡◌, ℕ, zero, suc, ◌+◌, ◌<◌, ◌≤◌, inl, inr, ◌⊎◌, ◌==◌, ◌&&◌, ◌||◌, not, Bool, true, false, ℤ, pos, ◌≤ℤ◌, int_le, unsigned_abs, List, [], ◌∷◌, length, refl, ap, subst, sym, ◌∙◌, add-one, arith}
+use Rattle.std.proofs.Common.{◌≡◌, ℕ, zero, suc, ◌+◌, ◌<◌, ◌≤◌, inl, inr, ◌==◌, ◌&&◌, ◌||◌, not, Bool, true, false, ℤ, pos, ◌≤ℤ◌, int_le, List, [], ◌∷◌, length, refl, ap, subst, sym, ◌∙◌, add-one, arith}
 use Rattle.std.specs.Prelude.{slice_index_or}
 use Rattle.std.specs.List.{AllByRecursion, list_any, range_with_len}
-use Rattle.std.proofs.Math.ListN.{get_or-eq_default}
 use Rattle.std.proofs.lemmas.Int.{ints}
 use Rattle.std.proofs.lemmas.Bool.{cases_lt, eq-eqb}
 use Rattle.std.proofs.lemmas.Bool.Decides.{nat_tests}
@@ -11,22 +10,21 @@ use Rattle.std.proofs.lemmas.List.FromFn.{get_or-map-range_with_len, length-map-
 use Rattle.case_model.specs.declared.cases.Case.{Case}
 use Rattle.case_model.specs.declared.cases.NodeKind.{NodeKind}
 use Rattle.case_model.specs.declared.cases.NodeKind.TheVariants.{Reservoir, Junction, Discharge, Inline, Pump, Tank, Vessel}
-use Rattle.case_model.specs.declared.cases.Value.TheVariants.{Fixed, ByTable}
-use Rattle.case_model.specs.declared.cases.Table.{Table}
+use Rattle.case_model.specs.declared.cases.Value.TheVariants.{Fixed}
 use Rattle.case_model.specs.declared.cases.Pipe.{Pipe}
 use Rattle.case_model.specs.declared.meshes.End.{End}
 use Rattle.case_model.specs.declared.meshes.Mesh.{Mesh}
 use Rattle.case_model.specs.declared.meshes.PipeMesh.{PipeMesh}
 use Rattle.case_model.specs.Mesh.{IsMesh, ends_of, reaches, no_pipe as no_pipe_mesh}
 use Rattle.case_model.specs.Sets.{Rules, IsEmpty, AreEmpty, any_below}
-use Rattle.case_model.specs.Limits.{IsRead, IsNode, IsKind, IsPipe}
+use Rattle.case_model.specs.Limits.{IsRead, IsKind}
 use Rattle.case_model.specs.Formulas.{reach_count, b_of, r_of}
-use Rattle.case_model.specs.Parts.{pipe_at, no_pipe, node_at, no_node}
+use Rattle.case_model.specs.Parts.{pipe_at, node_at, no_node}
 use Rattle.case_model.specs.Division.{is_count, is_adjusted, are_accepted, has_coefficients, divides, is_divided, node_ends, pipe_mesh, mesh_of, reaches_at}
 use Rattle.case_model.specs.Refusals.{ends_suit, breaks_pipe, breaks_node, exceeds, pipe_rules, node_rules, probe_rules, part_rules, passes}
 use Rattle.scheme.specs.Arrivals.{impedance, resistance}
 use Rattle.scheme.specs.Computable.{HasEnds, IsComputable}
-use Rattle.scheme.proofs.Suiting.{IsDivided, AreDivided, HasImpedances, suiting}
+use Rattle.scheme.proofs.Suiting.{AreDivided, suiting}
 
 and_left : (a b : Bool) → (a && b) ≡ true → a ≡ true
 and_left true b h = refl

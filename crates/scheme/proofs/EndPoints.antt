@@ -1,10 +1,8 @@
 -- The points of a node's ends, one by one.
-use Rattle.std.proofs.Common.{◌≡◌, ℕ, suc, ◌<◌, List, [], ◌∷◌, length, map, get_or, ℤ, pos, refl, ap, arith}
+use Rattle.std.proofs.Common.{◌≡◌, ℕ, suc, ◌<◌, List, [], ◌∷◌, length, map, get_or, ℤ, pos, refl, arith}
 use Rattle.case_model.specs.declared.meshes.End.{End}
 use Rattle.case_model.specs.declared.points.Point.{Point}
-use Rattle.case_model.specs.declared.points.Point.TheVariants.{Bad}
 use Rattle.case_model.specs.declared.states.NodeState.{NodeState}
-use Rattle.case_model.specs.declared.states.NodeState.TheVariants.{Bad as BadState}
 use Rattle.scheme.specs.Ends.{end_point, end_points}
 use Rattle.scheme.proofs.Gathered.{no_end, no_point}
 

@@ -1,5 +1,5 @@
 -- Every point and state at step 0 is Good.
-use Rattle.std.proofs.Common.{◌≡◌, ℕ, suc, ◌+◌, ◌-◌, ◌*◌, ◌<◌, ◌≤◌, ◌⊎◌, inl, inr, Bool, true, false, cond, int_lt, List, [], ◌∷◌, length, ℤ, pos, neg_ℤ, ◌+ℤ◌, ◌-ℤ◌, ◌*ℤ◌, ◌≤ℤ◌, ◌<ℤ◌, unsigned_abs, refl, ap, subst, sym, ◌∙◌, arith}
+use Rattle.std.proofs.Common.{◌≡◌, ℕ, suc, ◌*◌, ◌<◌, ◌≤◌, ◌⊎◌, inl, inr, Bool, true, false, cond, int_lt, List, [], ◌∷◌, length, ℤ, pos, neg_ℤ, ◌+ℤ◌, ◌-ℤ◌, ◌*ℤ◌, ◌≤ℤ◌, ◌<ℤ◌, unsigned_abs, refl, ap, subst, sym, arith}
 use Rattle.std.specs.List.{All, AllByRecursion}
 use Rattle.std.proofs.Math.ListN.{get_or-eq_default}
 use Rattle.std.proofs.lemmas.Int.{ints}
@@ -22,12 +22,11 @@ use Rattle.case_model.specs.Places.{is_bad, is_bad_state}
 use Rattle.case_model.specs.Range.{InRange, InStateRange}
 use Rattle.case_model.specs.RangeLaws.{point_of-good, state_of-good}
 use Rattle.scheme.specs.Computable.{IsComputable}
-use Rattle.scheme.specs.Ends.{along}
 use Rattle.scheme.specs.Laws.{meaning_of}
 use Rattle.scheme.specs.Starts.{start_head, start_inflow, start_volume, start_growth, start_node, head_between, start_point}
 use Rattle.scheme.specs.Values.{value_at}
 use Rattle.scheme.proofs.Shares.{part_below, share_up, share_down}
-use Rattle.scheme.proofs.TimeTables.{HasKind, found}
+use Rattle.scheme.proofs.TimeTables.{found}
 
 -- ---- a part of the way between two numbers lies between them
 

@@ -1,5 +1,5 @@
 -- Tables of numbers over time: their limits, and their value past their last time.
-use Rattle.std.proofs.Common.{◌≡◌, ℕ, suc, ◌+◌, ◌*◌, ◌<◌, ◌≤◌, ◌⊎◌, inl, inr, min, Bool, true, false, int_lt, List, [], ◌∷◌, length, get_or, ℤ, pos, negsuc, neg_ℤ, ◌+ℤ◌, ◌-ℤ◌, ◌*ℤ◌, ◌≤ℤ◌, ◌<ℤ◌, unsigned_abs, refl, ap, subst, sym, ◌∙◌, arith}
+use Rattle.std.proofs.Common.{◌≡◌, ℕ, ◌*◌, ◌<◌, ◌≤◌, ◌⊎◌, inl, inr, min, false, int_lt, List, [], ◌∷◌, length, get_or, ℤ, pos, negsuc, neg_ℤ, ◌*ℤ◌, ◌≤ℤ◌, unsigned_abs, refl, ap, subst, ◌∙◌, arith}
 use Rattle.std.specs.Prelude.{slice_index_or}
 use Rattle.std.specs.List.{All, AllByRecursion}
 use Rattle.std.proofs.lemmas.Int.{ints}
@@ -11,10 +11,10 @@ use Rattle.fixed_num.specs.Tables.{interp, IsBetween}
 use Rattle.case_model.specs.declared.cases.Case.{Case}
 use Rattle.case_model.specs.declared.cases.Table.{Table}
 use Rattle.case_model.specs.declared.cases.TableKind.{TableKind}
-use Rattle.case_model.specs.declared.cases.TableKind.TheVariants.{Heads, Flows, Openings, Speeds, Curve, Gas}
+use Rattle.case_model.specs.declared.cases.TableKind.TheVariants.{Heads, Flows, Openings, Speeds, Gas}
 use Rattle.case_model.specs.declared.cases.Value.{Value}
 use Rattle.case_model.specs.declared.cases.Value.TheVariants.{Fixed, ByTable}
-use Rattle.case_model.specs.Limits.{IsHead, IsFlow, IsTime, IsWithin, IsVolume, IsEntry, IsInOrder, IsTable, IsTableOf, IsValue, IsOpening, IsRead, least_entries}
+use Rattle.case_model.specs.Limits.{IsHead, IsFlow, IsTime, IsWithin, IsEntry, IsInOrder, IsTable, IsTableOf, IsValue, IsOpening, IsRead, least_entries}
 use Rattle.case_model.specs.Parts.{table_at, no_table}
 use Rattle.scheme.specs.Values.{IsTimeTable, IsTimed, Keeps}
 

@@ -1,5 +1,5 @@
 -- What the law of a case relies on: a case within its limits, and its mesh with coefficients within theirs.
-use Rattle.std.specs.Prelude.{◌≡◌, ◌<◌, ◌≤◌, ℕ, ℤ, pos, ◌+ℤ◌, ◌≤ℤ◌, IsTrue, List, length, slice_index_or}
+use Rattle.std.specs.Prelude.{◌≡◌, ◌<◌, ◌≤◌, ℕ, pos, ◌+ℤ◌, ◌≤ℤ◌, IsTrue, List, length, slice_index_or}
 use Rattle.case_model.specs.declared.cases.Case.{Case}
 use Rattle.case_model.specs.declared.cases.NodeKind.{NodeKind}
 use Rattle.case_model.specs.declared.cases.NodeKind.TheVariants.{Reservoir, Junction, Discharge, Inline, Pump, Tank, Vessel}
@@ -10,7 +10,6 @@ use Rattle.case_model.specs.Limits.{IsRead}
 use Rattle.case_model.specs.Mesh.{IsMesh, reaches, ends_of}
 use Rattle.case_model.specs.Parts.{node_at}
 use Rattle.case_model.specs.Refusals.{is_through}
-use Rattle.charline.specs.Characteristics.{IsImpedance, IsResistance}
 use Rattle.valves.specs.Orifices.{IsOrifice}
 use Rattle.scheme.specs.Arrivals.{impedance, resistance}
 use Rattle.scheme.specs.Ends.{side_one, side_two}

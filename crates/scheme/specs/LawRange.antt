@@ -1,6 +1,6 @@
 -- All that the law of a case makes is in range.
-use Rattle.std.specs.Prelude.{ℕ, Bool, true, false, cond, ◌&&◌, ◌==◌, ℤ, pos, int_le, int_lt, unsigned_abs, Option, Some, None, List, [], ◌∷◌, map}
-use Rattle.std.specs.List.{All, AllByRecursion, list_all}
+use Rattle.std.specs.Prelude.{ℕ, Bool, true, false, cond, ◌&&◌, ◌==◌, ℤ, pos, int_le, int_lt, unsigned_abs, Option, Some, None, List, [], ◌∷◌}
+use Rattle.std.specs.List.{AllByRecursion, list_all}
 use Rattle.std.proofs.lemmas.List.Elements.{All-from_recursion}
 use Rattle.case_model.specs.declared.cases.Case.{Case}
 use Rattle.case_model.specs.declared.cases.NodeKind.{NodeKind}
@@ -15,30 +15,26 @@ use Rattle.case_model.specs.declared.points.Point.{Point}
 use Rattle.case_model.specs.declared.points.Point.TheVariants.{Good, Bad}
 use Rattle.case_model.specs.declared.states.NodeState.{NodeState}
 use Rattle.case_model.specs.declared.states.NodeState.TheVariants.{Good as GoodState, Bad as BadState}
-use Rattle.case_model.specs.Division.{vapour_head, node_vapour_head}
 use Rattle.case_model.specs.Meaning.{IsMeaning}
 use Rattle.case_model.specs.Mesh.{ends_of}
-use Rattle.case_model.specs.Parts.{node_at}
-use Rattle.case_model.specs.Range.{IsPoint, IsState, point_of, state_of}
+use Rattle.case_model.specs.Range.{IsPoint, IsState, state_of}
 use Rattle.case_model.specs.RangeLaws.{point_of-in_range, state_of-in_range}
 use Rattle.charline.specs.Characteristics.{arrive_plus, arrive_minus}
 use Rattle.charline.specs.Cavity.{cavity_volume}
 use Rattle.charline.specs.Characteristics.{flow_in}
 use Rattle.std.specs.Int.{int_max}
 use Rattle.charline.specs.Interior.{meeting_head, flow_before, flow_after, growth, kept_or_closed, meet, meet_if, inner_point}
-use Rattle.junctions.specs.Levels.{is_flow, inflows, state_at, filled}
+use Rattle.junctions.specs.Levels.{is_flow, inflows, state_at}
 use Rattle.junctions.specs.Junctions.{reservoir_state, junction_head, junction_growth, kept_or_closed as junction_kept, junction_after, junction_state}
 use Rattle.valves.specs.declared.discharges.Valve.{Valve}
 use Rattle.valves.specs.Discharges.{end_at, flowing as with_flow, kept_or_closed as discharge_kept, discharge_after, discharge_growth, liquid_flow, liquid_head, discharge_end, discharge_state}
 use Rattle.valves.specs.Devices.{is_flow as is_valve_flow}
-use Rattle.vessels.specs.Vessels.{tank_head, tank_state, vessel_volume, has_volume, vessel_with, vessel_state}
-use Rattle.fixed_num.specs.Tables.{interp}
-use Rattle.scheme.specs.Arrivals.{arrivals_from, impedance, resistance}
+use Rattle.vessels.specs.Vessels.{tank_state, vessel_volume, has_volume, vessel_state}
+use Rattle.scheme.specs.Arrivals.{arrivals_from}
 use Rattle.scheme.specs.Ends.{end_point, end_points, bad_points, through_state, through_point, through_points}
 use Rattle.scheme.specs.Laws.{inner_law, meaning_of}
 use Rattle.scheme.specs.NodeLaws.{between, with_flows, law_of_kind, law_if, node_law}
 use Rattle.scheme.specs.Starts.{start_point, start_node}
-use Rattle.scheme.specs.Values.{rule_at}
 
 -- ---- the interior law
 

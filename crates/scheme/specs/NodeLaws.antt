@@ -1,15 +1,13 @@
 -- The law of a node, by its kind: its new state and the points of its pipe ends. After Wylie and
 -- Streeter, Fluid Transients in Systems: boundary conditions, column separation.
-use Rattle.std.specs.Prelude.{◌≡◌, ℕ, ℤ, pos, ◌+ℤ◌, Option, Some, None, List, [], ◌∷◌, length, slice_index_or}
+use Rattle.std.specs.Prelude.{ℕ, ℤ, Option, Some, None, List, [], ◌∷◌, slice_index_or}
 use Rattle.case_model.specs.declared.cases.Case.{Case}
 use Rattle.case_model.specs.declared.cases.NodeKind.{NodeKind}
 use Rattle.case_model.specs.declared.cases.NodeKind.TheVariants.{Reservoir, Junction, Discharge, Inline, Pump, Tank, Vessel}
 use Rattle.case_model.specs.declared.points.Point.{Point}
-use Rattle.case_model.specs.declared.points.Point.TheVariants.{Bad}
 use Rattle.case_model.specs.declared.states.NodeState.{NodeState}
 use Rattle.case_model.specs.declared.states.NodeState.TheVariants.{Bad as BadState}
 use Rattle.case_model.specs.declared.meshes.Arrival.{Arrival}
-use Rattle.case_model.specs.declared.meshes.CavityRule.{CavityRule}
 use Rattle.case_model.specs.declared.meshes.End.{End}
 use Rattle.case_model.specs.declared.meshes.Mesh.{Mesh}
 use Rattle.case_model.specs.declared.meshes.Through.{Through}

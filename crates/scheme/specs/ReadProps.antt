@@ -15,8 +15,7 @@ use Rattle.case_model.specs.declared.cases.ProbeAt.TheVariants.{OnPipe, OnNode}
 use Rattle.case_model.specs.declared.meshes.Arrival.{Arrival}
 use Rattle.case_model.specs.declared.meshes.End.{End}
 use Rattle.case_model.specs.declared.meshes.Mesh.{Mesh}
-use Rattle.case_model.specs.Limits.{IsHead, IsFlow, IsWithin, IsEntry, IsInOrder, IsTable, IsTableOf, IsValue, IsOpening, IsKind, IsNode, IsPipe, IsJoined, IsSpot, IsRead}
-use Rattle.case_model.specs.Mesh.{IsMesh}
+use Rattle.case_model.specs.Limits.{IsHead, IsFlow, IsWithin, IsEntry, IsInOrder, IsTable, IsTableOf, IsValue, IsKind, IsNode, IsSpot, IsRead}
 use Rattle.scheme.specs.Computable.{Suits, HasEnds, IsComputable}
 
 IsWithin-prop : (low high x : ℤ) → IsProp (IsWithin low high x)

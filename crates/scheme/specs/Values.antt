@@ -1,5 +1,5 @@
 -- Numbers that are fixed or follow a time table, and what a cavity is computed with.
-use Rattle.std.specs.Prelude.{◌<◌, ◌≤◌, ℕ, ℤ, pos, ◌*ℤ◌, ◌≤ℤ◌, unsigned_abs, List, length, All}
+use Rattle.std.specs.Prelude.{◌<◌, ◌≤◌, ℕ, ℤ, pos, ◌*ℤ◌, unsigned_abs, List, length, All}
 use Rattle.fixed_num.specs.Tables.{Rises, IsBetween, interp}
 use Rattle.case_model.specs.declared.cases.Case.{Case}
 use Rattle.case_model.specs.declared.cases.Value.{Value}

@@ -1,4 +1,4 @@
-use Rattle.std.proofs.Common.{◌≡◌, ◌≤ℤ◌, ◌<ℤ◌, pos, arith, to_z-of_z}
+use Rattle.std.proofs.Common.{◌≤ℤ◌, ◌<ℤ◌, pos, arith, to_z-of_z}
 use Rattle.scheme.proofs.Shares.{share_up, share_down}
 use Rattle.scheme.proofs.levels.share.Goals as goal
 

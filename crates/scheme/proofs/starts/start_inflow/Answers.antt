@@ -1,6 +1,5 @@
 use Rattle.std.proofs.Common.{arith, to_z-of_z}
 use Rattle.std.proofs.lemmas.Int.{ints}
-use Rattle.std.proofs.lemmas.Grind.{common_steps}
 use Rattle.scheme.proofs.Shares.{inflow-more}
 use Rattle.scheme.proofs.starts.start_inflow.Goals as goal
 

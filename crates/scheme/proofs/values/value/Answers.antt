@@ -1,8 +1,8 @@
-use Rattle.std.proofs.Common.{◌≡◌, ◌<◌, ◌∙◌, List, length, ℤ, ap, get_or, subst, sym, arith, to_z-of_z, rules}
+use Rattle.std.proofs.Common.{◌≡◌, ◌∙◌, List, ℤ, ap, get_or, subst, sym, arith, to_z-of_z}
 use Rattle.std.specs.List.{All}
 use Rattle.case_model.specs.declared.cases.Table.{Table}
 use Rattle.case_model.specs.declared.cases.Value.{Value}
-use Rattle.case_model.specs.Parts.{table_at, no_table}
+use Rattle.case_model.specs.Parts.{table_at}
 use Rattle.fixed_num.specs.Tables.{IsBetween}
 use Rattle.scheme.specs.Values.{Keeps, IsTimed}
 use Rattle.scheme.proofs.TimeTables.{same_table}
