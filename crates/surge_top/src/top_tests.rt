@@ -132,8 +132,11 @@ fn last_lines_are_those_worked_out_by_hand(rt: HostRuntime) -> Result<(), Fail> 
 
 #[test]
 fn cases_are_accepted_or_refused(rt: HostRuntime) -> Result<(), Fail> {
-    // 149.999 m are 1.49999 reaches of 100 m; 230.001 m in two need a speed over 1.15 times 1,000 m/s.
-    let rows: [(&[u8], &[u8], Status); 14] = [
+    // 149.999 m are 1.49999 reaches of 100 m; 230.001 m in two need a speed over 1.15 times 1,000 m/s, and
+    // 169.999 m one under 0.85 times that. Of 20 mm, 2,000 m in a reach and f = 0.5 the friction is over
+    // 10^8 s2/m5. One probe over 100,000,001 steps has too many samples. Of two faults the one on the
+    // earlier line counts, and on one line the one of the least number.
+    let rows: [(&[u8], &[u8], Status); 23] = [
         (STILL, b"accepted\n", Status::Done),
         (
             b"surge 1\nstep 0.1\nsteps 2\nreservoir A 0 100\nreservoir B 0 100\npipe P A B 230 1 1000 0 0\n",
@@ -194,6 +197,51 @@ fn cases_are_accepted_or_refused(rt: HostRuntime) -> Result<(), Fail> {
         (
             b"surge 1\n",
             b"refused 8 line 0 directive missing\n",
+            Status::Refused,
+        ),
+        (
+            b"surge 1\nstep 0.1\nsteps 2\nreservoir A 0 100\nreservoir B 0 100\npipe P A B 169.999 1 1000 0 0\n",
+            b"refused 13 line 6 wave speed over tolerance\n",
+            Status::Refused,
+        ),
+        (
+            b"surge 1\nstep 0.1\nsteps 2\nreservoir A 0 100\nreservoir B 0 100\npipe P A B 200 1 1000 0 0\nprobe P 65536\n",
+            b"refused 16 line 7 probe off the mesh\n",
+            Status::Refused,
+        ),
+        (
+            b"surge 1\nstep 0.1\nsteps 2\nreservoir A 0 100\npipe P A A 200 1 1000 0 0\n",
+            b"refused 11 line 5 ends do not suit\n",
+            Status::Refused,
+        ),
+        (
+            b"surge 1\nstep 0.1\nsteps 2\nreservoir A 0 100\ndischarge V 0 0.5 100 0 1 100\npipe P A V 200 1 1000 0 0\npipe Q A V 200 1 1000 0 0\n",
+            b"refused 11 line 5 ends do not suit\n",
+            Status::Refused,
+        ),
+        (
+            b"surge 1\nstep 1\nsteps 2\nreservoir A 0 100\njunction B 0 0 100\npipe P A B 4000 0.02 2000 0.5 0\n",
+            b"refused 15 line 6 coefficient out of limits\n",
+            Status::Refused,
+        ),
+        (
+            b"surge 1\nstep 0.1\nsteps 2\ngas G 1 60 2 40\nreservoir A 0 50\nvessel V 0 @G 3\npipe P A V 200 1 1000 0 0\n",
+            b"refused 15 line 6 coefficient out of limits\n",
+            Status::Refused,
+        ),
+        (
+            b"surge 1\nstep 0.1\nsteps 100000000\nreservoir A 0 100\nreservoir B 0 100\npipe P A B 200 1 1000 0 0\nprobe P 1\n",
+            b"refused 10 line 0 too many or too long\n",
+            Status::Refused,
+        ),
+        (
+            b"surge 1\nstep 0.1\nsteps 0\nreservoir A 0 100\njunction B 0 x 100\npipe P A B 200 1 1000 0 0\n",
+            b"refused 5 line 3 number out of limits\n",
+            Status::Refused,
+        ),
+        (
+            b"surge 1\nstep 0.1\nsteps 2\nreservoir A 0 100\nreservoir B 0 100\npipe P A C 200 11 1000 0 0\n",
+            b"refused 5 line 6 number out of limits\n",
             Status::Refused,
         ),
     ];
