@@ -1,18 +1,14 @@
 -- Fields that break no rule: numbers within the limits of their quantity, and references to tables of their kind.
-use Rattle.std.proofs.Common.{◌≡◌, ◌≤◌, ℕ, ◌&&◌, not, Bool, true, false, cond, ℤ, pos, neg_ℤ, ◌≤ℤ◌, int_le, unsigned_abs, List, Result, Ok, Err, arith}
-use Rattle.std.proofs.lemmas.Int.{ints}
+use Rattle.std.proofs.Common.{◌≡◌, ℕ, ◌&&◌, not, Bool, true, false, cond, ℤ, List}
 use Rattle.std.specs.List.{list_any}
-use Rattle.fixed_num.specs.declared.decimal.NumberFault.{NumberFault}
-use Rattle.fixed_num.specs.declared.decimal.NumberFault.TheVariants.{Spelling, Places, Large}
 use Rattle.case_model.specs.Sets.{IsEmpty}
 use Rattle.case_model.specs.Limits.{IsWithin, IsTableOf, IsValue}
 use Rattle.case_model.specs.declared.cases.TableKind.{TableKind}
 use Rattle.case_model.specs.declared.cases.Value.TheVariants.{Fixed, ByTable}
-use Rattle.case_lines.specs.declared.quantities.NumberLimits.{NumberLimits}
 use Rattle.case_lines.specs.declared.quantities.Quantity.{Quantity}
 use Rattle.case_lines.specs.declared.fields.FieldKind.{FieldKind}
 use Rattle.case_lines.specs.declared.fields.FieldKind.TheVariants.{Reference, Number, Value as ValueField}
-use Rattle.case_lines.specs.Quantities.{limits, quantity_in, is_spelt, is_outside, number_or_zero, amount}
+use Rattle.case_lines.specs.Quantities.{limits, amount}
 use Rattle.case_lines.specs.Fields.{is_marked, referred}
 use Rattle.case_lines.specs.Alone.{breaks_number, breaks_reference, breaks_field}
 use Rattle.case_rules.specs.declared.parts.Part.TheVariants.{ATable}

@@ -1,12 +1,12 @@
 -- Of lines that break no rule no two define one name.
-use Rattle.std.proofs.Common.{◌≡◌, ◌<◌, ℕ, ◌+◌, ◌-◌, ◌==◌, ◌&&◌, ◌||◌, Bool, true, false, Some, List, length, take, arith}
+use Rattle.std.proofs.Common.{◌≡◌, ◌<◌, ℕ, ◌+◌, ◌==◌, ◌&&◌, Bool, true, false, Some, List, length, take, arith}
 use Rattle.std.proofs.lemmas.Bool.{ne_eqb}
 use Rattle.std.specs.List.{list_any}
 use Rattle.case_model.specs.Sets.{IsEmpty}
 use Rattle.case_lines.specs.declared.words.Directive.{Directive}
 use Rattle.case_lines.specs.Fields.{field, has_count}
 use Rattle.case_rules.specs.Said.{line_at, said, is_definition, defines}
-use Rattle.case_rules.specs.Among.{uses_unknown, breaks_counted, breaks_among, line_rules}
+use Rattle.case_rules.specs.Among.{breaks_counted, breaks_among, line_rules}
 use Rattle.netfile.proofs.FieldLimits.{or_left, line_none, among_none, not_first, kept_at}
 
 and_no : (a b : Bool) → a ≡ true → (a && b) ≡ false → b ≡ false
