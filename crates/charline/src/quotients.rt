@@ -22,7 +22,6 @@ pub fn driven_flow(head: i64, b: i64) -> i64
 }
 
 /// The head (1e-6 m) that a flow (1e-9 m3/s) stands for at an impedance (1e-6 s/m2).
-// Typical products fit 64 bits, where a constant divisor costs no division.
 #[tactic(auto, unfolding(crate::specs::Characteristics::impedance_head))]
 pub fn impedance_head(b: i64, q: i64) -> i64
     requires impedance { IsImpedance b }
@@ -30,6 +29,7 @@ pub fn impedance_head(b: i64, q: i64) -> i64
     ensures value { result ≡ head_of b q }
     ensures size { unsigned_abs result ≤ 10_000_000_000_000_000 }
 {
+    // Typical products fit 64 bits, where a constant divisor costs no division.
     match b.checked_mul(q) {
         Some(product) => billionth(product),
         None => wide_impedance_head(b, q),
