@@ -83,3 +83,36 @@ fn column_separation(rt: HostRuntime) -> Result<(), Fail> {
     }
     Ok(())
 }
+
+// The same with two reaches: the wave is back at step 5, the cavity grows with 0.268166089 m3/s for four
+// steps, to 0.107266436 m3, and shrinks with 0.195501732 m3/s from step 9; 0.029065744 m3 are left at
+// step 12, and it collapses at step 13.
+#[test]
+fn cavity_at_a_closing_valve(rt: HostRuntime) -> Result<(), Fail> {
+    let rows: [(&[u8], &[u8]); 5] = [
+        (
+            b"surge 1\nstep 0.1\nsteps 5\nopenings T 0 1 0.1 0\nreservoir A 0 20\ndischarge V 0 0.5 20 0 @T 20\npipe P A V 200 1 1000 0 0.5\nwatch V\nprobe P 1\n",
+            b"last A 20.000000\nlast V -10.100000\n",
+        ),
+        (
+            b"surge 1\nstep 0.1\nsteps 8\nopenings T 0 1 0.1 0\nreservoir A 0 20\ndischarge V 0 0.5 20 0 @T 20\npipe P A V 200 1 1000 0 0.5\nwatch V\nprobe P 1\n",
+            b"last A 20.000000\nlast V -10.100000\n",
+        ),
+        (
+            b"surge 1\nstep 0.1\nsteps 9\nopenings T 0 1 0.1 0\nreservoir A 0 20\ndischarge V 0 0.5 20 0 @T 20\npipe P A V 200 1 1000 0 0.5\nwatch V\nprobe P 1\n",
+            b"last A 20.000000\nlast V -10.100000\n",
+        ),
+        (
+            b"surge 1\nstep 0.1\nsteps 12\nopenings T 0 1 0.1 0\nreservoir A 0 20\ndischarge V 0 0.5 20 0 @T 20\npipe P A V 200 1 1000 0 0.5\nwatch V\nprobe P 1\n",
+            b"last A 20.000000\nlast V -10.100000\n",
+        ),
+        (
+            b"surge 1\nstep 0.1\nsteps 13\nopenings T 0 1 0.1 0\nreservoir A 0 20\ndischarge V 0 0.5 20 0 @T 20\npipe P A V 200 1 1000 0 0.5\nwatch V\nprobe P 1\n",
+            b"last A 20.000000\nlast V 75.482836\n",
+        ),
+    ];
+    for (text, want) in rows {
+        assert!(rt; begins(&rt, text, want)?);
+    }
+    Ok(())
+}
