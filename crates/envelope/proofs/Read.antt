@@ -5,7 +5,8 @@ use Rattle.std.proofs.lemmas.List.{get_or-replicate, length-replicate, get_or_pa
 use Rattle.std.proofs.Math.Bool.{and-false}
 use Rattle.envelope.specs.Cells.{cell_of}
 use Rattle.envelope.specs.Extremes.{unmet}
-use Rattle.envelope.specs.Folds.{Stands}
+use Rattle.envelope.specs.Folds.{Stands, line_in}
+use Rattle.envelope.specs.Kept.{entry_of, sample_kept}
 use Rattle.envelope.specs.Lines.{told}
 use Rattle.envelope.specs.Notings.{Noted, column, taken, sample_over}
 use Rattle.envelope.specs.declared.extremes.Extreme.{Extreme}
@@ -35,6 +36,25 @@ sampled fold map probe step line p l le m h =
     (in-line fold (cell_of fold.spans.items fold.bases.items (get_or fold.probes.items probe 0)) line step h le) (omega arith)
     ∙ ap (column map (get_or fold.probes.items probe 0)) w
     ∙ sym (sampled-then map fold.every fold.steps (get_or fold.probes.items probe 0) step m le)
+
+-- what is kept of a probe at a step that is sampled, and at others
+pub kept-then : (fold : Fold) (probe step : ℕ) → step % fold.every ≡ 0 → step ≤ fold.steps
+    → sample_kept fold probe step ≡ told (entry_of fold.samples.items (line_in fold (get_or fold.probes.items probe 0)) (step / fold.every))
+unfolding sample_kept
+kept-then fold probe step h l = rw (eq-eqb (step % fold.every) 0 h, le-leb step fold.steps l) refl
+
+pub kept-past : (fold : Fold) (probe step : ℕ) → fold.steps < step → None ≡ sample_kept fold probe step
+unfolding sample_kept
+kept-past fold probe step h = rw (lt-leb step fold.steps h, and-false) refl
+
+pub kept-between : (fold : Fold) (probe step : ℕ) → step % fold.every ≢ 0 → None ≡ sample_kept fold probe step
+unfolding sample_kept
+kept-between fold probe step h = rw (ne_eqb (step % fold.every) 0 h) refl
+
+pub kept-line : (fold : Fold) (probe step line : ℕ) → step % fold.every ≡ 0 → step ≤ fold.steps
+    → get_or fold.marks.items (cell_of fold.spans.items fold.bases.items (get_or fold.probes.items probe 0)) None ≡ Some line
+    → told (get_or (get_or fold.samples.items line []) (step / fold.every) None) ≡ sample_kept fold probe step
+kept-line fold probe step line h l m = sym (kept-then fold probe step h l ∙ ap (λ o. told (entry_of fold.samples.items o (step / fold.every))) m)
 
 pub all-unmet : (n i : ℕ) → get_or (replicate n unmet) i unmet ≡ unmet
 all-unmet n i = elim (or-over n i) [

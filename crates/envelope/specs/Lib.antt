@@ -3,5 +3,7 @@ pub mod Cells
 pub mod Extremes
 pub mod Faults
 pub mod Folds
+pub mod Kept
 pub mod Lines
 pub mod Notings
+pub mod Rows

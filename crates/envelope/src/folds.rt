@@ -41,6 +41,7 @@ impl Fold {
     ghost use Rattle.envelope.specs.Extremes.{IsEnvelopeOf};
     ghost use Rattle.envelope.specs.Faults.{HasFault};
     ghost use Rattle.envelope.specs.Folds.{spans_of, probes_of, steps_of, every_of, Stands, IsFoldOf, IsSameFold, IsKeptAt, AreJoined, IsMergeable};
+    ghost use Rattle.envelope.specs.Kept.{extreme_kept, sample_kept};
     ghost use Rattle.envelope.specs.Lines.{told};
     ghost use Rattle.envelope.specs.Notings.{Noting, Noted, nothing, only, noted, union, Agree, IsInside, column, sample_over, taken, is_bad_noting};
     ghost use Rattle.envelope.specs.Notings.Noting.{OfPoint, OfNode};
@@ -143,9 +144,11 @@ impl Fold {
     }
 
     /// The envelope of a place, where a Good point of it was noted at a step up to the last.
+    #[tactic(auto, unfolding(crate::specs::Kept::extreme_kept))]
     pub fn extreme(&self, place: u64) -> Extreme
         requires { is_within (spans_of self.now) place ≡ true }
-        ensures { (map : Noted) (step : ℕ) → Stands self.now map → step ≤ steps_of self.now → taken (map step place) ≢ None → IsEnvelopeOf (column map place) (steps_of self.now) result }
+        ensures kept { result ≡ extreme_kept self.now place }
+        ensures envelope { (map : Noted) (step : ℕ) → Stands self.now map → step ≤ steps_of self.now → taken (map step place) ≢ None → IsEnvelopeOf (column map place) (steps_of self.now) result }
     {
         let cell = find_cell(&self.spans, &self.bases, place);
         self.cells[cell]
@@ -153,9 +156,11 @@ impl Fold {
 
     /// The sample of a probe at a step. None where no Good point was noted there, the step is no
     /// multiple of `every`, or it is past the last.
+    #[tactic(auto, unfolding(crate::specs::Kept::sample_kept))]
     pub fn sample(&self, probe: u32, step: u64) -> Option<Sample>
         requires { probe < length (probes_of self.now) }
-        ensures { (map : Noted) → Stands self.now map → told result ≡ sample_over map (every_of self.now) (steps_of self.now) (slice_index (probes_of self.now) probe) step }
+        ensures kept { told result ≡ sample_kept self.now probe step }
+        ensures sampled { (map : Noted) → Stands self.now map → told result ≡ sample_over map (every_of self.now) (steps_of self.now) (slice_index (probes_of self.now) probe) step }
     {
         if step > self.steps || step % self.every != 0 {
             return None;
