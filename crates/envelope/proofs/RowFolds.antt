@@ -23,7 +23,7 @@ use Rattle.case_model.specs.Places.{is_bad, is_bad_state, bad_places}
 use Rattle.case_model.specs.Rows.{Row, row}
 use Rattle.case_model.specs.Samples.{Sample, taken_at, point_sample, node_sample, sample, IsEnvelope}
 use Rattle.envelope.specs.Cells.{is_within, cell_of, end_of_span}
-use Rattle.envelope.specs.CellLaws.{within-first}
+use Rattle.envelope.specs.CellLaws.{within-first, below-first}
 use Rattle.envelope.specs.Extremes.{HasExtreme, IsEnvelopeOf, extreme_over, unmet}
 use Rattle.envelope.specs.Faults.{HasFault}
 use Rattle.envelope.specs.Folds.{Stands, spans_of, probes_of, steps_of, every_of, cell_in}
@@ -82,15 +82,6 @@ bad-below law s k n t = elim (or-over law.mesh.places k) [
   | inr h ↦ h
 ]
 
-within-below : (count k : ℕ) → is_within ((0, count) ∷ []) k ≡ true → k < count
-within-below count k h =
-    let a = within-index ((0, count) ∷ []) k h in
-    let t = a.1.there in
-    let w = a.1.high in
-    let z : a.0 ≡ 0 = omega arith in
-    let v : k < 0 + count = subst (λ i. k < end_of_span ((0, count) ∷ []) i) z w in
-    omega arith
-
 -- ---- the first fault
 
 pub fault-is : (law : Meaning) (last : ℕ) (fault : Option (ℕ × ℕ)) → IsNumbered law.mesh → HasFault ((0, law.mesh.places) ∷ []) last (rows_noted law) fault → fault ≡ first_fault law last
@@ -100,7 +91,7 @@ fault-is law last None n p =
     false≢true (sym (p s k l (within-first ((0, law.mesh.places) ∷ []) law.mesh.places k refl w)) ∙ bad-noted law s k n w ∙ b)))
 fault-is law last (Some fault) n p =
     let spans = (0, law.mesh.places) ∷ [] in
-    let w = within-below law.mesh.places fault.1 p.inside in
+    let w = below-first ((0, law.mesh.places) ∷ []) law.mesh.places fault.1 refl p.inside in
     let f : IsFirstFault law last fault.0 fault.1 = record {
       within = p.within;
       bad = sym (bad-noted law fault.0 fault.1 n w) ∙ p.bad;
