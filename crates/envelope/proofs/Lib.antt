@@ -7,3 +7,6 @@ pub mod Standing
 pub mod Noted
 pub mod Merged
 pub mod Read
+pub mod Overall
+pub mod Numbered
+pub mod RowFolds

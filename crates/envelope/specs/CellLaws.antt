@@ -15,3 +15,10 @@ within-span spans i k l low high = list_any_at (has_place k) spans i no_span l (
 -- one span that begins at place 0
 pub within-first : (spans : List (ℕ × ℕ)) (count place : ℕ) → spans ≡ (0, count) ∷ [] → place < count → is_within spans place ≡ true
 within-first spans count place e h = subst (λ s. is_within s place ≡ true) (sym e) (within-span ((0, count) ∷ []) 0 place (omega arith) (omega arith) (omega arith))
+
+below-count : (count place : ℕ) → is_within ((0, count) ∷ []) place ≡ true → place < count
+unfolding is_within
+below-count count place h = grind (arith, nat_tests)
+
+pub below-first : (spans : List (ℕ × ℕ)) (count place : ℕ) → spans ≡ (0, count) ∷ [] → is_within spans place ≡ true → place < count
+below-first spans count place e h = below-count count place (subst (λ s. is_within s place ≡ true) e h)

@@ -6,4 +6,5 @@ pub mod Folds
 pub mod Kept
 pub mod Lines
 pub mod Notings
+pub mod RowFolds
 pub mod Rows

@@ -79,6 +79,13 @@ impl Fold {
         })
     }
 
+    /// The last step that it keeps anything of.
+    pub fn steps(&self) -> u64
+        ensures { result ≡ steps_of self.now }
+    {
+        self.steps
+    }
+
     /// Takes in a point of a place of a pipe. A step past the last changes nothing.
     pub fn note(&mut self, step: u64, place: u64, point: &Point)
         requires { is_within (spans_of self.old) place ≡ true }

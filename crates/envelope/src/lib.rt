@@ -7,10 +7,12 @@ mod faults;
 mod folds;
 mod lines;
 mod peaks;
+mod rows;
 mod samples;
 
 pub use extremes::Extreme;
 pub use folds::Fold;
+pub use rows::{extremes_are_exact, folds_tell_rows, numbers_tell_places, stands_for_equal_maps};
 pub use samples::Sample;
 
 #[cfg(test)]

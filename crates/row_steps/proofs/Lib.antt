@@ -1,3 +1,4 @@
+pub mod Cut
 pub mod Filling
 pub mod Marks
 pub mod Stepped

@@ -1,3 +1,3 @@
-pub mod Outcome
+pub mod Noting
 pub mod Stepping
 pub mod StillLaw

@@ -1,36 +1,45 @@
-ghost use Rattle.std.specs.Prelude.{◌≡◌, ℕ, ◌+◌, ◌^◌, ◌<◌, ◌≤◌, length, IfOk};
+ghost use Rattle.std.specs.Prelude.{◌≡◌, ℕ, ◌+◌, ◌^◌, ◌<◌, ◌≤◌, [], ◌∷◌, length, Option, Ok, None, IfOk};
+ghost use Rattle.case_model.specs.FirstFault.{first_fault};
 ghost use Rattle.case_model.specs.Meaning.{Meaning, IsMeaning};
-ghost use Rattle.case_model.specs.Mesh.{IsMesh, ends_of, places_before};
+ghost use Rattle.case_model.specs.Mesh.{IsMesh, IsNumbered, ends_of, places_before};
 ghost use Rattle.case_model.specs.Rows.{states, all_points};
-ghost use Rattle.row_steps.specs.Outcome.{IsOutcome};
+ghost use Rattle.envelope.specs.Folds.{spans_of, steps_of, Stands, IsSameFold};
+ghost use Rattle.envelope.specs.Notings.{nothing};
+ghost use Rattle.envelope.specs.Rows.{rows_noted};
 ghost use Rattle.row_steps.specs.Stepping.{HasPlaces, HasEnds, all_joints};
 
 use crate::fault::{least_bad, least_if};
 use crate::joints::{PipeJoints, find_joints};
+use crate::noting::note_row;
 use crate::ranges::keeps_range;
 use crate::start::{room_for_ends, room_for_points, start_points, start_states};
 use crate::step::step_row;
-use crate::{Outcome, Row};
 use case_model::{Law, List, Mesh, NodeState, Point};
+use envelope::{Fold, numbers_tell_places, stands_for_equal_maps};
 use std::alloc::{AllocError, Global};
 use std::mem;
 
-/// The first fault of a law's mesh up to the last step, or else the row of that step. All memory
-/// is taken before the first step; the error is want of it.
+/// The first fault of a law's mesh up to the fold's last step, as step and place. Where there is none
+/// the fold was told every row. All memory is taken before the first step; the error is want of it.
 pub fn compute<L: Law>(
     alloc: Global,
     law: &L,
     mesh: &Mesh,
-    last: u64,
-) -> Result<Outcome, AllocError>
+    fold: &mut Fold,
+) -> Result<Option<(u64, u64)>, AllocError>
     requires mesh { mesh.now ≡ (L.meaning law.now).mesh }
     requires good { IsMesh mesh.now }
+    requires numbered { IsNumbered mesh.now }
     requires ends { (k : ℕ) → k < length mesh.now.ends → length (ends_of mesh.now k) ≤ 8 }
     requires few { length mesh.now.ends < 2 ^ 32 }
     requires few_pipes { length mesh.now.pipes < 2 ^ 32 }
     requires places { places_before mesh.now (length mesh.now.pipes) < 2 ^ 64 }
-    requires room { last < 2 ^ 63 }
-    ensures { IfOk result (λ outcome. IsOutcome (L.meaning law.now) last outcome) }
+    requires room { steps_of fold.old < 2 ^ 63 }
+    requires spans { spans_of fold.old ≡ (0, mesh.now.places) ∷ [] }
+    requires fresh { Stands fold.old nothing }
+    ensures fault { IfOk result (λ fault. fault ≡ first_fault (L.meaning law.now) (steps_of fold.old)) }
+    ensures stands { result ≡ Ok None → Stands fold.new (rows_noted (L.meaning law.now)) }
+    ensures same { IsSameFold fold.old fold.new }
 {
     keeps_range(law);
     let joints = find_joints(alloc, mesh)?;
@@ -38,55 +47,59 @@ pub fn compute<L: Law>(
     let old = start_points(alloc, law, mesh)?;
     let given = room_for_ends(alloc, mesh)?;
     let new = room_for_points(alloc, mesh)?;
-    Ok(run_steps(law, mesh, &joints, last, own, old, given, new))
+    Ok(run_steps(law, mesh, &joints, fold, own, old, given, new))
 }
 
-/// Steps from the initial row, in `own` and `old`, to the last step, or to the first row with a Bad place.
-/// Takes no memory: `given` and `new` are room for what a step makes.
+/// Steps from the initial row, in `own` and `old`, to the fold's last step, or to the first row with a
+/// Bad place. Takes no memory: `given` and `new` are room for what a step makes.
 fn run_steps<L: Law>(
     law: &L,
     mesh: &Mesh,
     joints: &[PipeJoints],
-    last: u64,
+    fold: &mut Fold,
     mut own: Vec<NodeState>,
     mut old: Vec<List<Point>>,
     mut given: Vec<List<Point>>,
     mut new: Vec<List<Point>>,
-) -> Outcome
+) -> Option<(u64, u64)>
     requires mesh { mesh.now ≡ (L.meaning law.now).mesh }
     requires range { IsMeaning (L.meaning law.now) }
     requires good { IsMesh (L.meaning law.now).mesh }
+    requires numbered { IsNumbered (L.meaning law.now).mesh }
     requires ends { (k : ℕ) → k < length (L.meaning law.now).mesh.ends → length (ends_of (L.meaning law.now).mesh k) ≤ 8 }
     requires few { length (L.meaning law.now).mesh.ends < 2 ^ 32 }
     requires few_pipes { length (L.meaning law.now).mesh.pipes < 2 ^ 32 }
     requires places { places_before (L.meaning law.now).mesh (length (L.meaning law.now).mesh.pipes) < 2 ^ 64 }
-    requires room { last < 2 ^ 63 }
+    requires room { steps_of fold.old < 2 ^ 63 }
+    requires spans { spans_of fold.old ≡ (0, (L.meaning law.now).mesh.places) ∷ [] }
+    requires fresh { Stands fold.old nothing }
     requires joints { joints.now ≡ all_joints (L.meaning law.now).mesh }
     requires own { own.items ≡ states (L.meaning law.now) 0 }
     requires old { old.items ≡ all_points (L.meaning law.now) 0 }
     requires given { HasEnds (L.meaning law.now).mesh given.items }
     requires new { HasPlaces (L.meaning law.now).mesh new.items }
-    ensures { IsOutcome (L.meaning law.now) last result }
+    ensures fault { result ≡ first_fault (L.meaning law.now) (steps_of fold.old) }
+    ensures stands { result ≡ None → Stands fold.new (rows_noted (L.meaning law.now)) }
+    ensures same { IsSameFold fold.old fold.new }
 {
+    numbers_tell_places();
+    stands_for_equal_maps();
+    let last = fold.steps();
+    note_row(mesh, 0, &own, &old, fold);
     if let Some(place) = least_bad(&own, &old) {
-        return Outcome::Fault { step: 0, place };
+        return Some((0, place));
     }
     for step in 0..last {
         let bad = step_row(
             law, mesh, joints, step, &mut own, &old, &mut given, &mut new,
         );
         mem::swap(&mut old, &mut new);
+        note_row(mesh, step + 1, &own, &old, fold);
         if let Some(place) = least_if(bad, &own, &old) {
-            return Outcome::Fault {
-                step: step + 1,
-                place,
-            };
+            return Some((step + 1, place));
         }
     }
-    Outcome::Heads(Row {
-        states: own,
-        points: old,
-    })
+    None
 }
 
 #[cfg(test)]

@@ -2,16 +2,19 @@
 use Rattle.std.specs.Prelude.{ℕ, Bool, true, false, Option, Some, None, Result, Ok, Err, if◌then◌else◌, List}
 use Rattle.case_model.specs.declared.cases.Case.{Case}
 use Rattle.case_model.specs.declared.meshes.Mesh.{Mesh}
-use Rattle.case_model.specs.Rows.{states, all_points}
+use Rattle.case_model.specs.Parts.{probe_at}
+use Rattle.case_model.specs.Samples.{sample}
 use Rattle.case_model.specs.FirstFault.{first_fault}
 use Rattle.case_model.specs.Search.{Refusal}
 use Rattle.command_words.specs.declared.job.Command.{Command}
 use Rattle.command_words.specs.declared.job.Command.TheVariants.{Check, Mesh as MeshCommand, Rounds, Run, Drill}
 use Rattle.command_words.specs.declared.job.Job.{Job}
 use Rattle.command_words.specs.CommandLine.{job_of}
+use Rattle.envelope.specs.Rows.{extreme_at}
 use Rattle.netfile.specs.Verdict.{verdict}
 use Rattle.scheme.specs.Laws.{meaning_of}
-use Rattle.surge_top.specs.Texts.{usage_text, accepted_text, refusal_text, range_text, heads_text}
+use Rattle.report.specs.Messages.{usage_text, accepted_text, refusal_text, range_text}
+use Rattle.report.specs.Report.{report_text}
 
 pub record Answer : Type 0 where
   pub text : List ℕ
@@ -24,10 +27,15 @@ usage = record { text = usage_text; status = 2 }
 abbrev pub refused : ℕ → ℕ → Answer
 refused number line = record { text = refusal_text number line; status = 1 }
 
--- of an accepted case: the first fault up to the last step, or else the heads at that step
+-- the report of an accepted case: over its rows of the steps 0 to the last
+unfoldable pub rows_text : Case → Mesh → List ℕ
+rows_text case mesh =
+    report_text case mesh (extreme_at (meaning_of case mesh) case.steps) (λ j step. sample (meaning_of case mesh) case (probe_at case j).at step)
+
+-- of an accepted case: the first fault up to the last step, or else its report
 abbrev pub computed : Case → Mesh → Option (ℕ × ℕ) → Answer
 computed case mesh (Some fault) = record { text = range_text case mesh fault.0 fault.1; status = 3 }
-computed case mesh None = record { text = heads_text case (states (meaning_of case mesh) case.steps) (all_points (meaning_of case mesh) case.steps); status = 0 }
+computed case mesh None = record { text = rows_text case mesh; status = 0 }
 
 -- what a command answers to an accepted case
 abbrev pub answer_case : Command → Case → Mesh → Answer

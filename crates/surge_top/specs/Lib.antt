@@ -1,4 +1,3 @@
 pub mod Answer
 pub mod Sizes
 pub mod Status
-pub mod Texts

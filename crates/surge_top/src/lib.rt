@@ -3,8 +3,8 @@
 
 mod causes;
 mod computing;
+mod folding;
 mod status;
-mod texts;
 mod top;
 
 pub use causes::statuses_have_their_causes;
@@ -15,7 +15,5 @@ pub use top::surge_plain;
 mod hand_tests;
 #[cfg(test)]
 mod steady_tests;
-#[cfg(test)]
-mod text_tests;
 #[cfg(test)]
 mod top_tests;

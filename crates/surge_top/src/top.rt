@@ -8,11 +8,11 @@ ghost use Rattle.surge_top.specs.Status.{number_of, IsAnswered};
 
 use crate::computing::rounds;
 use crate::status::Status;
-use crate::texts::{write_accepted, write_refusal, write_usage};
 use case_model::{Case, Mesh};
 use command_words::{Command, WordsFault, read_words};
 use netfile::{MOST_BYTES, read_case};
 use reaches::CaseFault;
+use report::{write_accepted, write_refusal, write_usage};
 use std::alloc::Global;
 use surge_io::{Failed, ReadFault, Sink, Source, whole};
 

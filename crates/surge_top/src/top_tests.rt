@@ -7,8 +7,12 @@ use surge_io::{MemorySink, MemorySource};
 const STILL: &[u8] =
     b"surge 1\nstep 0.1\nsteps 2\nreservoir A 0 100\nreservoir B 0 100\npipe P A B 200 1 1000 0 0\n";
 
-const STILL_HEADS: &[u8] =
-    b"last A 100.000000\nlast B 100.000000\nlast P 0 100.000000\nlast P 1 100.000000\nlast P 2 100.000000\n";
+const PROBED: &[u8] =
+    b"surge 1\nstep 0.1\nsteps 2\nreservoir A 0 100\nreservoir B 0 100\npipe P A B 200 1 1000 0 0\nprobe P 1\n";
+
+// Nothing moves: every head is 100 m, first at step 0, and of equal heads the first place stands for all.
+const PROBED_REPORT: &[u8] =
+    b"probe P 1 0 100.000000 0.000000000 0.000000000 0.000000000\nprobe P 1 1 100.000000 0.000000000 0.000000000 0.000000000\nprobe P 1 2 100.000000 0.000000000 0.000000000 0.000000000\nenvelope A 100.000000 0 100.000000 0\nenvelope B 100.000000 0 100.000000 0\nenvelope P 0 100.000000 0 100.000000 0\nenvelope P 1 100.000000 0 100.000000 0\nenvelope P 2 100.000000 0 100.000000 0\npeak P 0 100.000000 0 low P 0 100.000000 0\n";
 
 const USAGE: &[u8] =
     b"usage: surge check|mesh|rounds|run|drill [number] [--workers n] [--slots n] [--window n]\n";
@@ -19,19 +23,36 @@ fn source(alloc: Global, text: &[u8], failing: &[u64]) -> Result<MemorySource, A
 }
 
 #[test]
-fn heads_are_those_worked_out_by_hand(rt: HostRuntime) -> Result<(), Fail> {
-    // A stop of 0.5 m3/s raises the head by b*Q = 129.834328 * 0.5 = 64.917164 m; one of 1,000 m3/s by
+fn reports_are_those_worked_out_by_hand(rt: HostRuntime) -> Result<(), Fail> {
+    // A stop of 0.5 m3/s raises the head by b*Q = 129.834328 * 0.5 = 64.917164 m, at place 2 from step 1 on
+    // and at place 1 from step 2 on; one of 1,000 m3/s by
     // 129,834.328 m, past the range of 100,000 m. With 100,000 m at A and -100,000 m at B, place 1 has
     // the head 0 at step 0, and the flow into A at step 1 along P is (0 - b*Q - 100,000)/b, that is
     // -1,000 - 770.2 m3/s, past the range of 1,000 m3/s. A pipe of 230 m in two reaches of 0.1 s has the
     // wave speed 1,150 m/s and b = 149.309477 s/m2, and 0.5 m3/s stand for 74.654739 m. The vessel's gas
     // is at 0.5 m3, the end of its table, at step 1 and leaves it at step 2. Reservoirs of head 0 at
     // 10,000 m stand far below the vapour head there: places 2 to 9 are Bad at step 1 as well.
-    let rows: [(&[u8], &[u8], Status); 9] = [
-        (STILL, STILL_HEADS, Status::Done),
+    let rows: [(&[u8], &[u8], Status); 13] = [
+        (PROBED, PROBED_REPORT, Status::Done),
+        (
+            b"surge 1\r\nstep 0.1\r\nsteps 2\r\nreservoir A 0 100\r\nreservoir B 0 100\r\npipe P A B 200 1 1000 0 0\r\nprobe P 1\r\n",
+            PROBED_REPORT,
+            Status::Done,
+        ),
+        (
+            b"surge 1\nstep 0.1\nsteps 2\nreservoir A 0 100\nreservoir B 0 100\npipe P A B 200 1 1000 0 0\nprobe P 1",
+            PROBED_REPORT,
+            Status::Done,
+        ),
+        (b"", b"refused 1 line 1 first line\n", Status::Refused),
+        (
+            b"# a comment\n",
+            b"refused 1 line 1 first line\n",
+            Status::Refused,
+        ),
         (
             b"surge 1\nstep 0.1\nsteps 2\nreservoir A 0 100\njunction B 0 0 100\npipe P A B 200 1 1000 0 0.5\n",
-            b"last A 100.000000\nlast B 164.917164\nlast P 0 100.000000\nlast P 1 164.917164\nlast P 2 164.917164\n",
+            b"envelope A 100.000000 0 100.000000 0\nenvelope B 164.917164 1 100.000000 0\nenvelope P 0 100.000000 0 100.000000 0\nenvelope P 1 164.917164 2 100.000000 0\nenvelope P 2 164.917164 1 100.000000 0\npeak P 2 164.917164 1 low P 0 100.000000 0\n",
             Status::Done,
         ),
         (
@@ -46,7 +67,7 @@ fn heads_are_those_worked_out_by_hand(rt: HostRuntime) -> Result<(), Fail> {
         ),
         (
             b"surge 1\nstep 0.1\nsteps  2\nreservoir A 0 100\njunction B 0 0 100\npipe P A B 230 1 1000 0 0.5\n",
-            b"last A 100.000000\nlast B 174.654739\nlast P 0 100.000000\nlast P 1 174.654739\nlast P 2 174.654739\n",
+            b"envelope A 100.000000 0 100.000000 0\nenvelope B 174.654739 1 100.000000 0\nenvelope P 0 100.000000 0 100.000000 0\nenvelope P 1 174.654739 2 100.000000 0\nenvelope P 2 174.654739 1 100.000000 0\npeak P 2 174.654739 1 low P 0 100.000000 0\n",
             Status::Done,
         ),
         (
@@ -77,41 +98,6 @@ fn heads_are_those_worked_out_by_hand(rt: HostRuntime) -> Result<(), Fail> {
         let ended = surge_plain(&rt, words.as_slice(), &mut source, &mut sink);
         assert_eq!(rt; ended, status);
         assert_eq!(rt; sink.bytes(), want);
-    }
-    Ok(())
-}
-
-// A valve that shuts at step 1 raises the head by b*Q = 64.917164 m; the wave comes back from the
-// reservoir, 10 reaches away, at step 21 with the opposite sign, and again at step 41.
-#[test]
-fn last_lines_are_those_worked_out_by_hand(rt: HostRuntime) -> Result<(), Fail> {
-    let rows: [(&[u8], &[u8]); 5] = [
-        (
-            b"surge 1\nstep 0.1\nsteps 1\nopenings T 0 1 0.1 0\nreservoir A 0 100\ndischarge V 0 0.5 100 0 @T 100\npipe P A V 1000 1 1000 0 0.5\n",
-            b"last P 10 164.917164\n",
-        ),
-        (
-            b"surge 1\nstep 0.1\nsteps 20\nopenings T 0 1 0.1 0\nreservoir A 0 100\ndischarge V 0 0.5 100 0 @T 100\npipe P A V 1000 1 1000 0 0.5\n",
-            b"last P 10 164.917164\n",
-        ),
-        (
-            b"surge 1\nstep 0.1\nsteps 21\nopenings T 0 1 0.1 0\nreservoir A 0 100\ndischarge V 0 0.5 100 0 @T 100\npipe P A V 1000 1 1000 0 0.5\n",
-            b"last P 10 35.082836\n",
-        ),
-        (
-            b"surge 1\nstep 0.1\nsteps 40\nopenings T 0 1 0.1 0\nreservoir A 0 100\ndischarge V 0 0.5 100 0 @T 100\npipe P A V 1000 1 1000 0 0.5\n",
-            b"last P 10 35.082836\n",
-        ),
-        (
-            b"surge 1\nstep 0.1\nsteps 41\nopenings T 0 1 0.1 0\nreservoir A 0 100\ndischarge V 0 0.5 100 0 @T 100\npipe P A V 1000 1 1000 0 0.5\n",
-            b"last P 10 164.917164\n",
-        ),
-    ];
-    for (text, want) in rows {
-        let mut source = source(rt.alloc(), text, &[])?;
-        let mut sink = MemorySink::make(rt.alloc(), 10_000, Vec::new(rt.alloc()))?;
-        let _ended = surge_plain(&rt, ["surge", "rounds"].as_slice(), &mut source, &mut sink);
-        assert!(rt; sink.bytes().ends_with(want));
     }
     Ok(())
 }
@@ -299,9 +285,9 @@ fn faults_of_the_outside(rt: HostRuntime) -> Result<(), Fail> {
         (
             good,
             &[],
-            20,
+            100,
             &[],
-            b"last A 100.000000\nla",
+            b"probe P 1 0 100.000000 0.000000000 0.000000000 0.000000000\nprobe P 1 1 100.000000 0.000000000 0.0000",
             Status::WriteFault,
         ),
         (good, &[2], 1_000, &[], b"", Status::ReadFault),
@@ -309,7 +295,7 @@ fn faults_of_the_outside(rt: HostRuntime) -> Result<(), Fail> {
         (bad, &[1], 1_000, &[1], b"", Status::WriteFault),
     ];
     for (words, failing_reads, room, failing_writes, want, status) in rows {
-        let mut source = source(rt.alloc(), STILL, failing_reads)?;
+        let mut source = source(rt.alloc(), PROBED, failing_reads)?;
         let mut sink = MemorySink::make(rt.alloc(), room, failing_writes.to_vec(rt.alloc())?)?;
         let ended = surge_plain(&rt, words, &mut source, &mut sink);
         assert_eq!(rt; ended, status);

@@ -1,6 +1,9 @@
-use Rattle.std.proofs.Common.{◌≡◌, None}
+use Rattle.std.proofs.Common.{◌≡◌, ◌+◌, None}
 use Rattle.case_model.specs.FirstFault.{first_fault}
 use Rattle.case_model.specs.Rows.{states, all_points}
+use Rattle.envelope.specs.Folds.{Stands, IsSameFold}
+use Rattle.envelope.specs.Rows.{rows_noted}
+use Rattle.row_steps.specs.Noting.{before_place}
 use Rattle.row_steps.specs.Stepping.{HasPlaces, HasEnds}
 use Rattle.row_steps.proofs.run.run_steps.Given as goal
 
@@ -11,4 +14,6 @@ invariant-loop-step g l = record {
   given : HasEnds (g.L.Law.meaning l.law).mesh l.given.items;
   new : HasPlaces (g.L.Law.meaning l.law).mesh l.new.items;
   none : first_fault (g.L.Law.meaning l.law) l.step ≡ None;
+  same : IsSameFold l.fn.fold l.fold;
+  stands : Stands l.fold (before_place (rows_noted (g.L.Law.meaning l.law)) (l.step + 1) 0);
 }

@@ -1,0 +1,9 @@
+pub mod Widths
+pub mod Runs
+pub mod Pieces
+pub mod Numbers
+pub mod PlaceLines
+pub mod Leading
+pub mod Ordered
+pub mod PeakLaws
+pub mod Agreeing

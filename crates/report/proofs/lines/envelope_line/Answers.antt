@@ -1,0 +1,12 @@
+use Rattle.std.proofs.Common.{◌∷◌, [], codes, arith, rules}
+use Rattle.std.proofs.lemmas.Grind.{common_steps}
+use Rattle.report.specs.Lines.{count_text, head_text, label}
+use Rattle.report.specs.Report.{envelope_line}
+use Rattle.report.proofs.Runs.{two_runs}
+use Rattle.report.proofs.lines.envelope_line.Goals as goal
+
+pub returns : goal.returns
+unfolding envelope_line
+returns c =
+    let e = two_runs (codes "envelope") (label c.args.case.now c.args.at) (head_text c.args.extreme.now.max ∷ count_text c.args.extreme.now.max_step ∷ head_text c.args.extreme.now.min ∷ count_text c.args.extreme.now.min_step ∷ []) in
+    grind (arith, common_steps, e)

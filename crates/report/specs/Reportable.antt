@@ -1,0 +1,40 @@
+-- What a report is written from: a case within its limits, its mesh, and a fold over all places of the mesh.
+use Rattle.std.specs.Prelude.{◌≡◌, ℕ, ◌<◌, ◌≤◌, List, [], ◌∷◌, length, All}
+use Rattle.case_model.specs.Mesh.{IsNumbered}
+use Rattle.case_model.specs.declared.cases.Case.{Case}
+use Rattle.case_model.specs.declared.cases.ProbeAt.{ProbeAt}
+use Rattle.case_model.specs.declared.meshes.Mesh.{Mesh}
+use Rattle.envelope.specs.Folds.{spans_of, probes_of, steps_of, every_of}
+use Rattle.envelope.specs.Kept.{extreme_kept}
+use Rattle.envelope.specs.Rows.{IsOn, number_of}
+use Rattle.envelope.specs.declared.extremes.Extreme.{Extreme}
+use Rattle.envelope.specs.declared.folds.Fold.{Fold}
+
+-- a case and its mesh are of one size, within the limits of the case text
+pub record IsSized (case : Case) (mesh : Mesh) : Type 0 where
+  pub same_nodes : length mesh.ends ≡ length case.nodes
+  pub same_pipes : length mesh.pipes ≡ length case.pipes
+  pub few_nodes : length case.nodes ≤ 4_096
+  pub few_pipes : length case.pipes ≤ 4_096
+
+-- the places of the mesh are numbered without a gap, and the fold keeps the extreme of each
+pub record IsOver (mesh : Mesh) (fold : Fold) : Type 0 where
+  pub numbered : IsNumbered mesh
+  pub few_places : mesh.places ≤ 400_000
+  pub whole : spans_of fold ≡ (0, mesh.places) ∷ []
+
+pub record IsReportable (case : Case) (mesh : Mesh) (fold : Fold) : Type 0 where
+  pub sized : IsSized case mesh
+  pub some_pipes : 0 < length case.pipes
+  pub over : IsOver mesh fold
+  pub same_probes : length (probes_of fold) ≡ length case.probes
+  pub same_steps : steps_of fold ≡ case.steps
+  pub same_every : every_of fold ≡ case.every
+  pub probes_on : All (λ probe. IsOn mesh probe.at) case.probes
+  pub few_probes : length case.probes ≤ 256
+  pub some_every : 1 ≤ case.every
+  pub few_steps : case.steps ≤ 100_000_000
+
+-- the extreme that a fold keeps of each place of a mesh
+abbrev pub extremes_of : Mesh → Fold → ProbeAt → Extreme
+extremes_of mesh fold at = extreme_kept fold (number_of mesh at)

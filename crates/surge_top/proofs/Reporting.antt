@@ -1,0 +1,118 @@
+-- What a fold keeps of the rows of an accepted case is what the definitions say of them.
+use Rattle.std.proofs.Common.{◌≡◌, ◌∙◌, ℕ, ◌+◌, ◌%◌, ◌<◌, ◌≤◌, true, List, [], ◌∷◌, length, get_or, map, Option, None, Result, Ok, Err, ap, sym, subst, refl, arith}
+use Rattle.std.specs.List.{All}
+use Rattle.std.specs.Prelude.{MatchResult, OnErr}
+use Rattle.std.proofs.lemmas.List.{get_or-map, length-map}
+use Rattle.case_model.specs.declared.cases.Case.{Case}
+use Rattle.case_model.specs.declared.cases.Probe.{Probe}
+use Rattle.case_model.specs.declared.cases.ProbeAt.{ProbeAt}
+use Rattle.case_model.specs.declared.meshes.Mesh.{Mesh}
+use Rattle.case_model.specs.FirstFault.{first_fault}
+use Rattle.case_model.specs.Meaning.{Meaning}
+use Rattle.case_model.specs.Mesh.{IsNumbered}
+use Rattle.case_model.specs.Parts.{no_probe, probe_at}
+use Rattle.case_model.specs.Samples.{Sample, sample}
+use Rattle.envelope.specs.CellLaws.{within-first}
+use Rattle.envelope.specs.Cells.{IsRising, end_of_span}
+use Rattle.envelope.specs.Folds.{Stands, IsFoldOf, IsSameFold, steps_of}
+use Rattle.envelope.specs.Kept.{extreme_kept, sample_kept}
+use Rattle.envelope.specs.Lines.{AreWithin}
+use Rattle.envelope.specs.RowFolds.{HasRows, IsFoldOfCase, probe_numbers}
+use Rattle.envelope.specs.Rows.{number_of, IsOn, rows_noted, extreme_at}
+use Rattle.envelope.specs.declared.extremes.Extreme.{Extreme}
+use Rattle.envelope.specs.declared.folds.Fold.{Fold}
+use Rattle.netfile.specs.Accepted.{IsAccepted}
+use Rattle.report.specs.Report.{report_text}
+use Rattle.report.specs.Reportable.{IsReportable}
+use Rattle.surge_top.specs.Sizes.{IsSmall}
+use Rattle.surge_top.specs.declared.status.Status.{Status}
+use Rattle.surge_top.specs.declared.status.Status.TheVariants.{WriteFault}
+use Rattle.surge_top.proofs.Fitting.{all_pipes}
+
+-- ---- the fold that is made
+
+pub one_span : (count : ℕ) → count ≤ 400_000 → IsRising ((0, count) ∷ [])
+one_span count h = record {
+  apart = λ i j l b. absurd (omega arith);
+  low = λ i l. let z : 0 ≡ i = omega arith in subst (λ k. end_of_span ((0, count) ∷ []) k ≤ 400_000) z (let e : 0 + count ≤ 400_000 = omega arith in e);
+}
+
+-- the law of place numbers: they lie below the count of places
+abbrev pub BelowLaw : Type 0
+BelowLaw = (mesh : Mesh) (at : ProbeAt) → IsNumbered mesh → IsOn mesh at → number_of mesh at < mesh.places
+
+pub probes_within : (case : Case) (mesh : Mesh) (numbers : List ℕ) → BelowLaw → IsNumbered mesh → All (λ probe. IsOn mesh probe.at) case.probes → numbers ≡ probe_numbers mesh case → AreWithin ((0, mesh.places) ∷ []) numbers
+probes_within case mesh numbers below n on e = λ p h.
+    let l : p < length case.probes = omega (arith, ap length e, length-map case.probes (λ (probe : Probe). number_of mesh probe.at)) in
+    let at = ap (λ ks. get_or ks p 0) e ∙ get_or-map (λ (probe : Probe). number_of mesh probe.at) case.probes p no_probe 0 l in
+    within-first ((0, mesh.places) ∷ []) mesh.places (get_or numbers p 0) refl (subst (λ k. k < mesh.places) (sym at) (below mesh (probe_at case p).at n (on p no_probe l)))
+
+pub few_numbers : (case : Case) (mesh : Mesh) (numbers : List ℕ) → numbers ≡ probe_numbers mesh case → length numbers ≡ length case.probes
+few_numbers case mesh numbers e = ap length e ∙ length-map case.probes (λ (probe : Probe). number_of mesh probe.at)
+
+-- ---- the report
+
+pub reportable : (case : Case) (mesh : Mesh) (fold : Fold) → IsAccepted case mesh → IsSmall case mesh → All (λ probe. IsOn mesh probe.at) case.probes
+    → IsFoldOf ((0, mesh.places) ∷ []) (probe_numbers mesh case) case.steps case.every fold → IsReportable case mesh fold
+reportable case mesh fold a small on given = record {
+  sized = record { same_nodes = small.same_nodes; same_pipes = small.same_pipes; few_nodes = a.read.few_nodes; few_pipes = a.read.few_pipes };
+  some_pipes = a.some;
+  over = record { numbered = a.numbered; few_places = small.numbers; whole = given.spans_are };
+  same_probes = few_numbers case mesh fold.probes.items given.probes_are;
+  same_steps = given.steps_are;
+  same_every = given.every_is;
+  probes_on = on;
+  few_probes = small.probes;
+  some_every = a.read.some_every;
+  few_steps = small.steps;
+}
+
+-- the laws of folds over rows, and of a report's numbers
+abbrev pub ExtremeLaw : Type 0
+ExtremeLaw = (law : Meaning) (fold : Fold) (at : ProbeAt) → HasRows law fold → first_fault law (steps_of fold) ≡ None → IsOn law.mesh at → extreme_kept fold (number_of law.mesh at) ≡ extreme_at law (steps_of fold) at
+
+abbrev pub SampleLaw : Type 0
+SampleLaw = (law : Meaning) (case : Case) (fold : Fold) (j step : ℕ) → HasRows law fold → IsFoldOfCase law case fold → j < length case.probes → sample_kept fold j step ≡ sample law case (probe_at case j).at step
+
+abbrev pub TextLaw : Type 0
+TextLaw = (case : Case) (mesh : Mesh) (e f : ProbeAt → Extreme) (s t : ℕ → ℕ → Option Sample) → 0 < length mesh.pipes → ((at : ProbeAt) → IsOn mesh at → e at ≡ f at)
+    → ((j step : ℕ) → j < length case.probes → step ≤ case.steps → step % case.every ≡ 0 → s j step ≡ t j step) → report_text case mesh e s ≡ report_text case mesh f t
+
+-- the report of what a fold keeps is that of the rows, on one mesh
+abbrev IsText : Meaning → Case → Fold → Mesh → Type 0
+IsText law case fold mesh =
+    IsAccepted case mesh → All (λ probe. IsOn mesh probe.at) case.probes → IsFoldOf ((0, mesh.places) ∷ []) (probe_numbers mesh case) case.steps case.every fold
+    → report_text case mesh (λ at. extreme_kept fold (number_of mesh at)) (sample_kept fold) ≡ report_text case mesh (extreme_at law case.steps) (λ j step. sample law case (probe_at case j).at step)
+
+text_over : (law : Meaning) (case : Case) (fold : Fold) → ExtremeLaw → SampleLaw → TextLaw → Stands fold (rows_noted law) → first_fault law case.steps ≡ None → IsText law case fold law.mesh
+text_over law case fold extremes samples text told clear a on given =
+    let rows : HasRows law fold = record { numbered = a.numbered; spans = given.spans_are; stands = told } in
+    let over : IsFoldOfCase law case fold = record { steps = given.steps_are; every = given.every_is; probes = given.probes_are; on = λ j h. on j no_probe h } in
+    let e = given.steps_are in
+    text case law.mesh (λ at. extreme_kept fold (number_of law.mesh at)) (extreme_at law case.steps) (sample_kept fold) (λ j step. sample law case (probe_at case j).at step)
+    (let n = all_pipes case law.mesh a.divided in let s = a.some in omega arith)
+    (λ at h. extremes law fold at rows (subst (λ n. first_fault law n ≡ None) (sym e) clear) h ∙ ap (λ n. extreme_at law n at) e)
+    (λ j step h l m. samples law case fold j step rows over h)
+
+pub text_is : (law : Meaning) (case : Case) (mesh : Mesh) (fold : Fold) → law.mesh ≡ mesh → ExtremeLaw → SampleLaw → TextLaw → Stands fold (rows_noted law) → first_fault law case.steps ≡ None
+    → IsAccepted case mesh → All (λ probe. IsOn mesh probe.at) case.probes → IsFoldOf ((0, mesh.places) ∷ []) (probe_numbers mesh case) case.steps case.every fold
+    → report_text case mesh (λ at. extreme_kept fold (number_of mesh at)) (sample_kept fold) ≡ report_text case mesh (extreme_at law case.steps) (λ j step. sample law case (probe_at case j).at step)
+text_is law case mesh fold e extremes samples text told clear = subst (IsText law case fold) e (text_over law case fold extremes samples text told clear)
+
+-- a fold of the same shape has what was given to it
+pub given_still : (spans : List (ℕ × ℕ)) (probes : List ℕ) (steps every : ℕ) (old new : Fold) → IsFoldOf spans probes steps every old → IsSameFold old new → IsFoldOf spans probes steps every new
+given_still spans probes steps every old new p q = record {
+  spans_are = q.spans_are ∙ p.spans_are;
+  probes_are = q.probes_are ∙ p.probes_are;
+  steps_are = q.steps_are ∙ p.steps_are;
+  every_is = q.every_is ∙ p.every_is;
+}
+
+-- the first fault, of a law and a step that are known by other names
+pub fault_here : (law other : Meaning) (n last : ℕ) (o : Option (ℕ × ℕ)) → o ≡ first_fault law n → law ≡ other → n ≡ last → first_fault other last ≡ o
+fault_here law other n last o h e k = sym (h ∙ ap (λ m. first_fault m n) e ∙ ap (λ s. first_fault other s) k)
+
+-- what is so of a text that failed is so where the status is a write fault
+pub front_of : {A B : Type 0} (written : Result A B) (status done : Status) (P : Type 0) → MatchResult written (λ u. status ≡ done) (λ e. status ≡ WriteFault) → (done ≡ WriteFault → ⊥) → OnErr written P → status ≡ WriteFault → P
+front_of (Ok u) status done P m n h w = absurd (n (sym m ∙ w))
+front_of (Err e) status done P m n h w = h
