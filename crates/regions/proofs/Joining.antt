@@ -28,7 +28,7 @@ any-cons : {X : Type 0} (p : X → Bool) (x : X) (xs : List X) (d : X) (b : Bool
 any-cons p x xs d true e h more = (0, omega arith, e)
 any-cons p x xs d false e h more = let r = more h in (suc r.0, (let l : r.0 < length xs = r.1 in omega arith), r.2)
 
-any-index : {X : Type 0} (p : X → Bool) (xs : List X) (d : X) → list_any p xs ≡ true → (i : ℕ) × (i < length xs) × (p (get_or xs i d) ≡ true)
+pub any-index : {X : Type 0} (p : X → Bool) (xs : List X) (d : X) → list_any p xs ≡ true → (i : ℕ) × (i < length xs) × (p (get_or xs i d) ≡ true)
 any-index p [] d h = cc
 any-index p (x ∷ xs) d h = any-cons p x xs d (p x) refl h (any-index p xs d)
 
@@ -46,7 +46,7 @@ same-flag true b h = sym h
 same-flag false true h = absurd (grind arith)
 same-flag false false h = refl
 
-end-is : (p : ℕ) (last : Bool) (e : End) → is_end p last e ≡ true → e ≡ record { pipe = p; at_last = last }
+pub end-is : (p : ℕ) (last : Bool) (e : End) → is_end p last e ≡ true → e ≡ record { pipe = p; at_last = last }
 end-is p last e h =
     let l = and_parts (e.pipe == p) (if e.at_last then last else not last) h in
     let k : e.pipe ≡ p = eqb-true e.pipe p l.0 in

@@ -7,3 +7,4 @@ mod Shaped
 mod Standing
 mod Strands
 mod Windowed
+mod Wiring

@@ -9,6 +9,6 @@ mod numbers;
 mod shapes;
 mod sides;
 
-pub use laws::sides_are_mutual;
+pub use laws::{division_is_wired, sides_are_mutual};
 pub use layouts::layout;
 pub use shapes::{Layout, Shape, Spot};
