@@ -2,6 +2,7 @@ mod Counting
 mod Cutting
 mod Joining
 mod Listing
+mod Parting
 mod Pieces
 mod Shaped
 mod Standing

@@ -1,4 +1,5 @@
 pub mod Cuts
 pub mod Layouts
 pub mod Numbers
+pub mod Regions
 pub mod Sides

@@ -6,6 +6,8 @@ mod joints;
 mod laws;
 mod layouts;
 mod numbers;
+mod parts;
+mod regions;
 mod shapes;
 mod sides;
 
