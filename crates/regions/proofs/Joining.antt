@@ -32,7 +32,7 @@ pub any-index : {X : Type 0} (p : X → Bool) (xs : List X) (d : X) → list_any
 any-index p [] d h = cc
 any-index p (x ∷ xs) d h = any-cons p x xs d (p x) refl h (any-index p xs d)
 
-passes : {X : Type 0} (q : X → Bool) (xs : List X) (k : ℕ) (d : X) → k < length xs → q (get_or xs k d) ≡ true → position_or_len q xs < length xs
+pub passes : {X : Type 0} (q : X → Bool) (xs : List X) (k : ℕ) (d : X) → k < length xs → q (get_or xs k d) ≡ true → position_or_len q xs < length xs
 passes q xs k d l h = elim (cases_lt (position_or_len q xs) (length xs)) [
   | inl b ↦ b
   | inr b ↦ let f = fails_before_first q xs k d (omega arith) in absurd (grind (arith, h, f))

@@ -2,10 +2,12 @@ mod Counting
 mod Cutting
 mod Joining
 mod Listing
+mod Owning
 mod Parting
 mod Pieces
 mod Shaped
 mod Standing
 mod Strands
+mod Whole
 mod Windowed
 mod Wiring

@@ -1,8 +1,8 @@
 -- Which points (places at steps, and nodes at steps) lie in which region of which strand.
-use Rattle.std.specs.Prelude.{◌≡◌, ℕ, zero, suc, ◌+◌, ◌-◌, ◌*◌, ◌/◌, ◌<◌, ◌≤◌, ◌⊎◌, min, nat_le, if◌then◌else◌, length}
+use Rattle.std.specs.Prelude.{◌≡◌, ℕ, zero, suc, ◌+◌, ◌-◌, ◌*◌, ◌/◌, ◌<◌, ◌≤◌, ◌⊎◌, min, nat_le, true, false, if◌then◌else◌, length}
 use Rattle.std.specs.List.{position_or_len, range_with_len}
 use Rattle.case_model.specs.declared.meshes.Mesh.{Mesh}
-use Rattle.case_model.specs.Mesh.{reaches}
+use Rattle.case_model.specs.Mesh.{reaches, end_node}
 use Rattle.regions.specs.declared.parts.Part.{Part}
 use Rattle.regions.specs.declared.parts.Part.TheVariants.{Own, Left, Right}
 use Rattle.regions.specs.declared.shapes.Layout.{Layout}
@@ -103,6 +103,20 @@ owner_of mesh w (Inside p i) t = place_owner mesh w p i t (section_of mesh w p i
 abbrev pub HasSpot : Mesh → Spot → Type 0
 HasSpot mesh (AtNode k) = k < length mesh.ends
 HasSpot mesh (Inside p i) = (p < length mesh.pipes) × (i ≤ reaches mesh p)
+
+-- to lie in a region is to have it as owner: each spot of the mesh, at each step of the windows, lies in
+-- exactly one region; the end of a pipe lies in that of its node
+pub record IsPartition (layout : Layout) (mesh : Mesh) : Type 0 where
+  pub owned : (spot : Spot) (t x m : ℕ) → HasSpot mesh spot → 1 ≤ t → t ≤ layout.windows * layout.window → x < length layout.shapes
+      → InRegion layout x m spot t → owner_of mesh layout.window spot t ≡ record { strand = x; region = m }
+  pub there : (spot : Spot) (t : ℕ) → HasSpot mesh spot → 1 ≤ t → t ≤ layout.windows * layout.window
+      → (owner_of mesh layout.window spot t).strand < length layout.shapes
+  pub inside : (spot : Spot) (t : ℕ) → HasSpot mesh spot → 1 ≤ t → t ≤ layout.windows * layout.window
+      → InRegion layout (owner_of mesh layout.window spot t).strand (owner_of mesh layout.window spot t).region spot t
+  pub first : (p t : ℕ) → p < length mesh.pipes → 1 ≤ t
+      → owner_of mesh layout.window (Inside p 0) t ≡ owner_of mesh layout.window (AtNode (end_node mesh p false)) t
+  pub last : (p t : ℕ) → p < length mesh.pipes → 1 ≤ t
+      → owner_of mesh layout.window (Inside p (reaches mesh p)) t ≡ owner_of mesh layout.window (AtNode (end_node mesh p true)) t
 
 -- what a layout has whose sections are as long as a window: its numbers are small enough to compute with
 abbrev pub IsLong : ℕ → Shape → Type 0

@@ -6,6 +6,7 @@ ghost use Rattle.case_model.specs.Limits.{IsRead};
 ghost use Rattle.case_model.specs.Mesh.{IsMesh, places_before};
 ghost use Rattle.regions.specs.Cuts.{IsLimited};
 ghost use Rattle.regions.specs.Layouts.{layout_of};
+ghost use Rattle.regions.specs.Regions.{IsPartition, IsWhole};
 ghost use Rattle.regions.specs.Sides.{IsWired, AreMutual};
 
 /// The mesh of a case has each end of a pipe once, and within the limits of the places keeps all limits.
@@ -17,4 +18,15 @@ pub fn division_is_wired()
 /// The law of sides: neighbours are neighbours of one another.
 pub fn sides_are_mutual()
     ensures { (steps wish : ℕ) (mesh : MeshSeen) → IsMesh mesh → IsWired mesh → 1 ≤ wish → AreMutual (layout_of steps mesh wish) mesh }
+{}
+
+/// The law of regions: each node and each place, at each step of the windows, lies in exactly one region
+/// of one strand.
+pub fn regions_are_a_partition()
+    ensures { (steps wish : ℕ) (mesh : MeshSeen) → IsMesh mesh → 1 ≤ wish → IsPartition (layout_of steps mesh wish) mesh }
+{}
+
+/// The layout of a mesh within its limits has windows of 1 to 64 steps, and no section shorter than a window.
+pub fn layouts_are_whole()
+    ensures { (steps wish : ℕ) (mesh : MeshSeen) → IsMesh mesh → IsLimited mesh → steps ≤ 100_000_000 → 1 ≤ wish → wish ≤ 64 → IsWhole (layout_of steps mesh wish) }
 {}

@@ -11,6 +11,6 @@ mod regions;
 mod shapes;
 mod sides;
 
-pub use laws::{division_is_wired, sides_are_mutual};
+pub use laws::{division_is_wired, layouts_are_whole, regions_are_a_partition, sides_are_mutual};
 pub use layouts::layout;
 pub use shapes::{Layout, Shape, Spot};
