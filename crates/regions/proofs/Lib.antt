@@ -1,3 +1,4 @@
+mod Blocking
 mod Counting
 mod Cutting
 mod Joining

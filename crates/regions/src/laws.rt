@@ -4,8 +4,10 @@ ghost use Rattle.case_model.specs.declared.meshes.Mesh.{Mesh as MeshSeen};
 ghost use Rattle.case_model.specs.Division.{mesh_of};
 ghost use Rattle.case_model.specs.Limits.{IsRead};
 ghost use Rattle.case_model.specs.Mesh.{IsMesh, places_before};
+ghost use Rattle.regions.specs.Blocks.{InSectionBlock, InStationBlock, section_point, station_point, section_index, station_index, AreInOrder, AreWritten};
 ghost use Rattle.regions.specs.Cuts.{IsLimited};
 ghost use Rattle.regions.specs.Layouts.{layout_of};
+ghost use Rattle.regions.specs.Needs.{AreEnough};
 ghost use Rattle.regions.specs.Regions.{IsPartition, IsWhole};
 ghost use Rattle.regions.specs.Sides.{IsWired, AreMutual};
 
@@ -29,4 +31,18 @@ pub fn regions_are_a_partition()
 /// The layout of a mesh within its limits has windows of 1 to 64 steps, and no section shorter than a window.
 pub fn layouts_are_whole()
     ensures { (steps wish : ℕ) (mesh : MeshSeen) → IsMesh mesh → IsLimited mesh → steps ≤ 100_000_000 → 1 ≤ wish → wish ≤ 64 → IsWhole (layout_of steps mesh wish) }
+{}
+
+/// The law of blocks: the points of a block are those of its set, each once, in order, and they lie in the
+/// regions of the strand that writes it.
+pub fn blocks_are_in_order()
+    ensures section { (w : ℕ) → AreInOrder w (InSectionBlock w) section_point section_index }
+    ensures station { (w : ℕ) → AreInOrder w (InStationBlock w) (station_point w) (station_index w) }
+    ensures written { (steps wish : ℕ) (mesh : MeshSeen) → IsMesh mesh → IsWired mesh → 1 ≤ wish → AreWritten (layout_of steps mesh wish) mesh }
+{}
+
+/// The law of needs: all that the laws of a region's points read lies at step 0, in this or an earlier region
+/// of the strand, or in a block that the region needs.
+pub fn needs_are_enough()
+    ensures { (steps wish : ℕ) (mesh : MeshSeen) → IsMesh mesh → IsWired mesh → 1 ≤ wish → AreEnough (layout_of steps mesh wish) mesh }
 {}
