@@ -85,7 +85,7 @@ not_not true = refl
 not_not false = refl
 
 -- what a strand's shape says of its sides
-side-from : (layout : Layout) (mesh : Mesh) (w x j : ℕ) (s : Shape) → IsOver layout mesh w → shape_at layout x ≡ s → side_of layout mesh x j ≡ side_in mesh w j s
+pub side-from : (layout : Layout) (mesh : Mesh) (w x j : ℕ) (s : Shape) → IsOver layout mesh w → shape_at layout x ≡ s → side_of layout mesh x j ≡ side_in mesh w j s
 unfolding side_of
 side-from layout mesh w x j s o e = ap (λ (u : ℕ). side_in mesh u j (shape_at layout x)) o.window ∙ ap (side_in mesh w j) e
 
@@ -93,11 +93,11 @@ back-from : (layout : Layout) (mesh : Mesh) (x j : ℕ) (s : Shape) → shape_at
 unfolding back_of
 back-from layout mesh x j s e = ap (back_in layout mesh j) e
 
-sides-from : (layout : Layout) (mesh : Mesh) (x : ℕ) (s : Shape) → shape_at layout x ≡ s → sides_of layout mesh x ≡ sides_in mesh s
+pub sides-from : (layout : Layout) (mesh : Mesh) (x : ℕ) (s : Shape) → shape_at layout x ≡ s → sides_of layout mesh x ≡ sides_in mesh s
 unfolding sides_of
 sides-from layout mesh x s e = ap (sides_in mesh) e
 
-kind-from : (layout : Layout) (x : ℕ) (s : Shape) → shape_at layout x ≡ s → is_section layout x ≡ is_section_shape s
+pub kind-from : (layout : Layout) (x : ℕ) (s : Shape) → shape_at layout x ≡ s → is_section layout x ≡ is_section_shape s
 kind-from layout x s e = ap is_section_shape e
 
 both : (layout : Layout) (mesh : Mesh) (x j y b : ℕ) → side_of layout mesh x j ≡ y → back_of layout mesh x j ≡ b → side_of layout mesh y b ≡ x → back_of layout mesh y b ≡ j

@@ -6,6 +6,8 @@ mod Listing
 mod Owning
 mod Parting
 mod Pieces
+mod Placing
+mod Reading
 mod Shaped
 mod Standing
 mod Strands

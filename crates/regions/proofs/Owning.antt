@@ -143,7 +143,7 @@ station-there layout mesh p c fit h b =
     ]
 
 -- a station is no section
-station-in : (layout : Layout) (mesh : Mesh) (x m p i t : ℕ) → StationShape layout mesh x → InStations layout x m p i t → InRegion layout x m (Inside p i) t
+pub station-in : (layout : Layout) (mesh : Mesh) (x m p i t : ℕ) → StationShape layout mesh x → InStations layout x m p i t → InRegion layout x m (Inside p i) t
 station-in layout mesh x m p i t (Node k e) s = subst (λ (q : Shape). InShape layout x m t q (Inside p i)) (sym e) s
 station-in layout mesh x m p i t (Seam q j left right e) s = subst (λ (q : Shape). InShape layout x m t q (Inside p i)) (sym e) s
 
