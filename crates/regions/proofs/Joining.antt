@@ -89,7 +89,7 @@ pub side-from : (layout : Layout) (mesh : Mesh) (w x j : ℕ) (s : Shape) → Is
 unfolding side_of
 side-from layout mesh w x j s o e = ap (λ (u : ℕ). side_in mesh u j (shape_at layout x)) o.window ∙ ap (side_in mesh w j) e
 
-back-from : (layout : Layout) (mesh : Mesh) (x j : ℕ) (s : Shape) → shape_at layout x ≡ s → back_of layout mesh x j ≡ back_in layout mesh j s
+pub back-from : (layout : Layout) (mesh : Mesh) (x j : ℕ) (s : Shape) → shape_at layout x ≡ s → back_of layout mesh x j ≡ back_in layout mesh j s
 unfolding back_of
 back-from layout mesh x j s e = ap (back_in layout mesh j) e
 

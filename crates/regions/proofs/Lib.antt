@@ -3,6 +3,7 @@ mod Counting
 mod Cutting
 mod Joining
 mod Listing
+mod Needing
 mod Owning
 mod Parting
 mod Pieces

@@ -34,49 +34,49 @@ use Rattle.regions.proofs.Whole.{IsFitted, fitted, cut-end}
 -- ---- what stands at a section
 
 -- a section by its pipe and its place in the row of sections
-record IsSectionAt (layout : Layout) (mesh : Mesh) (p j : ℕ) : Type 0 where
-  pipe : p < length mesh.pipes
-  index : j < sections_at mesh layout.window p
+pub record IsSectionAt (layout : Layout) (mesh : Mesh) (p j : ℕ) : Type 0 where
+  pub pipe : p < length mesh.pipes
+  pub index : j < sections_at mesh layout.window p
 
-abbrev count_at : Layout → Mesh → ℕ → ℕ → ℕ
+abbrev pub count_at : Layout → Mesh → ℕ → ℕ → ℕ
 count_at layout mesh p j = section_reaches layout.window (reaches mesh p) j
 
-abbrev first_at : Layout → Mesh → ℕ → ℕ → ℕ
+abbrev pub first_at : Layout → Mesh → ℕ → ℕ → ℕ
 first_at layout mesh p j = cut layout.window (reaches mesh p) j
 
-abbrev number_at : Layout → Mesh → ℕ → ℕ → ℕ
+abbrev pub number_at : Layout → Mesh → ℕ → ℕ → ℕ
 number_at layout mesh p j = section_number mesh layout.window p j
 
 -- the place at distance d from the station at side b
-abbrev spot_at : Layout → Mesh → ℕ → ℕ → ℕ → ℕ → Spot
+abbrev pub spot_at : Layout → Mesh → ℕ → ℕ → ℕ → ℕ → Spot
 spot_at layout mesh p j b d = side_spot b d (section_shape mesh layout.window p j)
 
-shape-of : (layout : Layout) (mesh : Mesh) (p j : ℕ) → IsFitted layout mesh → IsSectionAt layout mesh p j → shape_at layout (number_at layout mesh p j) ≡ section_shape mesh layout.window p j
+pub shape-of : (layout : Layout) (mesh : Mesh) (p j : ℕ) → IsFitted layout mesh → IsSectionAt layout mesh p j → shape_at layout (number_at layout mesh p j) ≡ section_shape mesh layout.window p j
 shape-of layout mesh p j fit is = shape-section layout mesh layout.window p j fit.over is.pipe is.index
 
-there-of : (layout : Layout) (mesh : Mesh) (p j : ℕ) → IsFitted layout mesh → IsSectionAt layout mesh p j → number_at layout mesh p j < length layout.shapes
+pub there-of : (layout : Layout) (mesh : Mesh) (p j : ℕ) → IsFitted layout mesh → IsSectionAt layout mesh p j → number_at layout mesh p j < length layout.shapes
 there-of layout mesh p j fit is = section-inside layout mesh layout.window p j fit.over is.pipe is.index
 
-kind-of : (layout : Layout) (mesh : Mesh) (p j : ℕ) → IsFitted layout mesh → IsSectionAt layout mesh p j → is_section layout (number_at layout mesh p j) ≡ true
+pub kind-of : (layout : Layout) (mesh : Mesh) (p j : ℕ) → IsFitted layout mesh → IsSectionAt layout mesh p j → is_section layout (number_at layout mesh p j) ≡ true
 kind-of layout mesh p j fit is = kind-from layout (number_at layout mesh p j) _ (shape-of layout mesh p j fit is)
 
-count-of : (layout : Layout) (mesh : Mesh) (p j : ℕ) → IsFitted layout mesh → IsSectionAt layout mesh p j → sides_of layout mesh (number_at layout mesh p j) ≡ 2
+pub count-of : (layout : Layout) (mesh : Mesh) (p j : ℕ) → IsFitted layout mesh → IsSectionAt layout mesh p j → sides_of layout mesh (number_at layout mesh p j) ≡ 2
 count-of layout mesh p j fit is = sides-from layout mesh (number_at layout mesh p j) _ (shape-of layout mesh p j fit is)
 
-left-side : (layout : Layout) (mesh : Mesh) (p j : ℕ) → IsFitted layout mesh → IsSectionAt layout mesh p j → side_of layout mesh (number_at layout mesh p j) 0 ≡ station_number mesh layout.window p j
+pub left-side : (layout : Layout) (mesh : Mesh) (p j : ℕ) → IsFitted layout mesh → IsSectionAt layout mesh p j → side_of layout mesh (number_at layout mesh p j) 0 ≡ station_number mesh layout.window p j
 left-side layout mesh p j fit is = side-from layout mesh layout.window (number_at layout mesh p j) 0 _ fit.over (shape-of layout mesh p j fit is)
 
-right-side : (layout : Layout) (mesh : Mesh) (p j : ℕ) → IsFitted layout mesh → IsSectionAt layout mesh p j → side_of layout mesh (number_at layout mesh p j) 1 ≡ station_number mesh layout.window p (j + 1)
+pub right-side : (layout : Layout) (mesh : Mesh) (p j : ℕ) → IsFitted layout mesh → IsSectionAt layout mesh p j → side_of layout mesh (number_at layout mesh p j) 1 ≡ station_number mesh layout.window p (j + 1)
 right-side layout mesh p j fit is = side-from layout mesh layout.window (number_at layout mesh p j) 1 _ fit.over (shape-of layout mesh p j fit is)
 
 -- a strand that is a section is one of a pipe
-record IsSomeSection (layout : Layout) (mesh : Mesh) (y : ℕ) : Type 0 where
-  pipe : ℕ
-  index : ℕ
-  is : IsSectionAt layout mesh pipe index
-  number : y ≡ number_at layout mesh pipe index
+pub record IsSomeSection (layout : Layout) (mesh : Mesh) (y : ℕ) : Type 0 where
+  pub pipe : ℕ
+  pub index : ℕ
+  pub is : IsSectionAt layout mesh pipe index
+  pub number : y ≡ number_at layout mesh pipe index
 
-some-section : (layout : Layout) (mesh : Mesh) (y : ℕ) → IsFitted layout mesh → y < length layout.shapes → is_section layout y ≡ true → IsSomeSection layout mesh y
+pub some-section : (layout : Layout) (mesh : Mesh) (y : ℕ) → IsFitted layout mesh → y < length layout.shapes → is_section layout y ≡ true → IsSomeSection layout mesh y
 some-section layout mesh y fit h k = elim (strand layout mesh layout.window y fit.over h) [
   | IsNode b ↦ let e = kind-from layout y _ (shape-node layout mesh layout.window y fit.over b) in absurd (grind (arith, e, k))
   | IsSeam q i b l e ↦ let f = kind-from layout y _ (shape-seam layout mesh layout.window q i y fit.over b l e) in absurd (grind (arith, f, k))
@@ -98,7 +98,7 @@ side-station layout mesh p j b y fit is two e = subst (StationShape layout mesh)
 
 -- ---- points near a station lie in its region
 
-by-side : (layout : Layout) (mesh : Mesh) (p j b y m d t : ℕ) → IsFitted layout mesh → IsSectionAt layout mesh p j → b < 2 → side_of layout mesh (number_at layout mesh p j) b ≡ y
+pub by-side : (layout : Layout) (mesh : Mesh) (p j b y m d t : ℕ) → IsFitted layout mesh → IsSectionAt layout mesh p j → b < 2 → side_of layout mesh (number_at layout mesh p j) b ≡ y
     → d ≤ count_at layout mesh p j → m < layout.windows → InStation layout.window m d t → InRegion layout y m (spot_at layout mesh p j b d) t
 by-side layout mesh p j b y m d t fit is two e far some s =
     let w : ℕ = layout.window in
@@ -131,7 +131,7 @@ by-side layout mesh p j b y m d t fit is two e far some s =
     ]
 
 -- and those of a section in that of the section
-by-own : (layout : Layout) (mesh : Mesh) (p j m i t : ℕ) → IsFitted layout mesh → IsSectionAt layout mesh p j → 0 < i → i < count_at layout mesh p j → m ≤ layout.windows
+pub by-own : (layout : Layout) (mesh : Mesh) (p j m i t : ℕ) → IsFitted layout mesh → IsSectionAt layout mesh p j → 0 < i → i < count_at layout mesh p j → m ≤ layout.windows
     → InSection layout.window (count_at layout mesh p j) m i t → InRegion layout (number_at layout mesh p j) m (Inside p (first_at layout mesh p j + i)) t
 by-own layout mesh p j m i t fit is lo hi some s =
     let w : ℕ = layout.window in
@@ -142,19 +142,19 @@ by-own layout mesh p j m i t fit is lo hi some s =
 
 -- ---- the points of blocks
 
-section-spot : (layout : Layout) (mesh : Mesh) (y c j : ℕ) → is_section layout y ≡ true → block_spot layout mesh y c j ≡ side_spot c (section_point j).0 (shape_at layout y)
+pub section-spot : (layout : Layout) (mesh : Mesh) (y c j : ℕ) → is_section layout y ≡ true → block_spot layout mesh y c j ≡ side_spot c (section_point j).0 (shape_at layout y)
 unfolding block_spot
 section-spot layout mesh y c j h = rw h refl
 
-station-spot : (layout : Layout) (mesh : Mesh) (y c j : ℕ) → is_section layout y ≡ false → block_spot layout mesh y c j ≡ side_spot (back_of layout mesh y c) (station_point layout.window j).0 (shape_at layout (side_of layout mesh y c))
+pub station-spot : (layout : Layout) (mesh : Mesh) (y c j : ℕ) → is_section layout y ≡ false → block_spot layout mesh y c j ≡ side_spot (back_of layout mesh y c) (station_point layout.window j).0 (shape_at layout (side_of layout mesh y c))
 unfolding block_spot
 station-spot layout mesh y c j h = rw h refl
 
-section-step : (layout : Layout) (y b j : ℕ) → is_section layout y ≡ true → block_step layout y b j ≡ b * layout.window + (section_point j).1
+pub section-step : (layout : Layout) (y b j : ℕ) → is_section layout y ≡ true → block_step layout y b j ≡ b * layout.window + (section_point j).1
 unfolding block_step block_point_of
 section-step layout y b j h = rw h refl
 
-station-step : (layout : Layout) (y b j : ℕ) → is_section layout y ≡ false → block_step layout y b j ≡ b * layout.window + (station_point layout.window j).1
+pub station-step : (layout : Layout) (y b j : ℕ) → is_section layout y ≡ false → block_step layout y b j ≡ b * layout.window + (station_point layout.window j).1
 unfolding block_step block_point_of
 station-step layout y b j h = rw h refl
 

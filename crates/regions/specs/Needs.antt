@@ -6,7 +6,7 @@ use Rattle.regions.specs.declared.shapes.Layout.{Layout}
 use Rattle.regions.specs.declared.shapes.Spot.{Spot}
 use Rattle.regions.specs.declared.shapes.Spot.TheVariants.{AtNode, Inside}
 use Rattle.regions.specs.Blocks.{block_spot, block_step}
-use Rattle.regions.specs.Regions.{HasSpot, InRegion}
+use Rattle.regions.specs.Regions.{InRegion}
 use Rattle.regions.specs.Sides.{end_at, is_section, sides_of, side_of, back_of}
 
 -- the block that region m of a strand needs of each side: a section's region 0 needs none
@@ -34,5 +34,5 @@ pub data Source (layout : Layout) (mesh : Mesh) (x m : ℕ) (spot : Spot) (t : �
 
 -- what regions need is enough: all that is read has such a source
 abbrev pub AreEnough : Layout → Mesh → Type 0
-AreEnough layout mesh = (x m t : ℕ) (spot near : Spot) → x < length layout.shapes → HasSpot mesh spot → Reads mesh spot near
+AreEnough layout mesh = (x m t : ℕ) (spot near : Spot) → x < length layout.shapes → Reads mesh spot near
     → InRegion layout x m spot (t + 1) → Source layout mesh x m near t
