@@ -14,8 +14,9 @@ use Rattle.regions.specs.Cuts.{window_of, windows_of, sections, section_reaches,
 use Rattle.regions.specs.Layouts.{sections_at, section_number, section_shape, layout_of}
 use Rattle.regions.specs.Regions.{IsLong, IsWhole}
 use Rattle.regions.specs.Sides.{shape_at}
+use Rattle.regions.proofs.Counting.{few as all-few, few-seams}
 use Rattle.regions.proofs.Cutting.{cut-next, cut-more, cut-last, reaches-long}
-use Rattle.regions.proofs.Strands.{IsOver, layout-over, layout-windows, shape-node, shape-seam, shape-section, Strand, strand}
+use Rattle.regions.proofs.Strands.{IsOver, layout-over, layout-windows, length-shapes, shape-node, shape-seam, shape-section, Strand, strand}
 use Rattle.regions.proofs.Strands.Strand.{IsNode, IsSeam, IsSection}
 use Rattle.regions.proofs.Windowed.{window-is, window-some}
 
@@ -70,5 +71,10 @@ whole steps wish mesh good limits few some most =
       some = fit.some;
       few = let l = is.wished in omega arith;
       windows = let l = windows-few (window_of mesh wish) steps (let s = fit.some in omega arith) few in let k = layout-windows steps wish mesh in omega arith;
+      strands =
+          let l = ap length o.shapes ∙ length-shapes mesh (window_of mesh wish) in
+          let a = few-seams mesh (window_of mesh wish) (length mesh.pipes) limits (omega arith) in
+          let b = all-few mesh (window_of mesh wish) (length mesh.pipes) limits (omega arith) in
+          omega arith;
       long = λ y h. long-at (layout_of steps mesh wish) mesh y fit limits h;
     }

@@ -128,4 +128,5 @@ pub record IsWhole (layout : Layout) : Type 0 where
   pub some : 1 ≤ layout.window
   pub few : layout.window ≤ 64
   pub windows : layout.windows ≤ 100_000_000
+  pub strands : length layout.shapes ≤ 1_000_000
   pub long : (y : ℕ) → y < length layout.shapes → IsLong layout.window (shape_at layout y)

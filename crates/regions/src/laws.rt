@@ -1,11 +1,11 @@
-ghost use Rattle.std.specs.Prelude.{ℕ, ◌≤◌, length};
+ghost use Rattle.std.specs.Prelude.{◌≡◌, ℕ, ◌+◌, ◌≤◌, max, length};
 ghost use Rattle.case_model.specs.declared.cases.Case.{Case as CaseSeen};
 ghost use Rattle.case_model.specs.declared.meshes.Mesh.{Mesh as MeshSeen};
 ghost use Rattle.case_model.specs.Division.{mesh_of};
 ghost use Rattle.case_model.specs.Limits.{IsRead};
 ghost use Rattle.case_model.specs.Mesh.{IsMesh, places_before};
 ghost use Rattle.regions.specs.Blocks.{InSectionBlock, InStationBlock, section_point, station_point, section_index, station_index, AreInOrder, AreWritten};
-ghost use Rattle.regions.specs.Cuts.{IsLimited};
+ghost use Rattle.regions.specs.Cuts.{IsLimited, IsWindow, window_of, sections, section_reaches, cut};
 ghost use Rattle.regions.specs.Layouts.{layout_of};
 ghost use Rattle.regions.specs.Needs.{AreEnough};
 ghost use Rattle.regions.specs.Regions.{IsPartition, IsWhole};
@@ -15,6 +15,15 @@ ghost use Rattle.regions.specs.Sides.{IsWired, AreMutual};
 pub fn division_is_wired()
     ensures wired { (case : CaseSeen) → IsWired (mesh_of case) }
     ensures limited { (case : CaseSeen) → IsRead case → places_before (mesh_of case) (length (mesh_of case).pipes) ≤ 400_000 → IsLimited (mesh_of case) }
+{}
+
+/// The law of cuts: a window is the least of the wish and of all counts of reaches; a pipe's sections fill
+/// it, and each has at least as many reaches as a window has steps, and at least 2.
+pub fn cuts_follow_the_window()
+    ensures window { (mesh : MeshSeen) (wish : ℕ) → IsWindow mesh wish (window_of mesh wish) }
+    ensures filled { (w n : ℕ) → cut w n (sections w n) ≡ n }
+    ensures each { (w n j : ℕ) → 2 ≤ n → w ≤ n → max 2 w ≤ section_reaches w n j }
+    ensures even { (w n i j : ℕ) → i ≤ j → (section_reaches w n j ≤ section_reaches w n i) × (section_reaches w n i ≤ section_reaches w n j + 1) }
 {}
 
 /// The law of sides: neighbours are neighbours of one another.
