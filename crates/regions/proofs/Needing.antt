@@ -53,7 +53,7 @@ station-lift layout mesh p j b y m e t fit joined is two at some far (FromSectio
     let again : side_of layout mesh y c ≡ z = ap (λ (x : ℕ). side_of layout mesh x c) (sym at) ∙ joined.again z b h l in
     let twice : back_of layout mesh y c ≡ b = ap (λ (x : ℕ). back_of layout mesh x c) (sym at) ∙ joined.twice z b h l in
     let point = (sections-in-order w).found e k s in
-    InBlock c m i inside (ap (λ (x : Bool). needs_of x m) station) ((sections-in-order w).there e k s)
+    InBlock c m i inside (ap (λ (x : Bool). needs_of x m) station) some ((sections-in-order w).there e k s)
     (ap (λ (x : ℕ). block_spot layout mesh x (back_of layout mesh y c) i) again ∙ ap (λ (x : ℕ). block_spot layout mesh z x i) twice
     ∙ section-spot layout mesh z b i kind ∙ ap (side_spot b (section_point i).0) (shape-of layout mesh p j fit is) ∙ ap (λ (x : ℕ × ℕ). spot_at layout mesh p j b x.0) point)
     (ap (λ (x : ℕ). block_step layout x m i) again ∙ section-step layout z m i kind ∙ ap (λ (x : ℕ × ℕ). m * w + x.1) point ∙ st)
@@ -61,8 +61,8 @@ station-lift layout mesh p j b y m e t fit joined is two at some far (FromSectio
 -- ---- of a section
 
 station-block-at : (layout : Layout) (mesh : Mesh) (p j side d m b k t : ℕ) → IsFitted layout mesh → AreMutual layout mesh → IsSectionAt layout mesh p j → side < 2
-    → m ≡ suc b → InStationBlock layout.window d k → b * layout.window + k ≡ t → Source layout mesh (number_at layout mesh p j) m (spot_at layout mesh p j side d) t
-station-block-at layout mesh p j side d m b k t fit joined is two e s st =
+    → m ≤ layout.windows → m ≡ suc b → InStationBlock layout.window d k → b * layout.window + k ≡ t → Source layout mesh (number_at layout mesh p j) m (spot_at layout mesh p j side d) t
+station-block-at layout mesh p j side d m b k t fit joined is two some e s st =
     let w : ℕ = layout.window in
     let x : ℕ = number_at layout mesh p j in
     let y : ℕ = side_of layout mesh x side in
@@ -73,7 +73,7 @@ station-block-at layout mesh p j side d m b k t fit joined is two e s st =
     let kind = kind-of layout mesh p j fit is in
     let station : is_section layout y ≡ false = joined.kinds x side h l ∙ ap not kind in
     let point = (stations-in-order w).found d k s in
-    InBlock side b i l (ap (λ (z : Bool). needs_of z m) kind ∙ ap (needs_of true) e) ((stations-in-order w).there d k s)
+    InBlock side b i l (ap (λ (z : Bool). needs_of z m) kind ∙ ap (needs_of true) e) (omega arith) ((stations-in-order w).there d k s)
     (station-spot layout mesh y c i station
     ∙ ap (λ (z : ℕ). side_spot z (station_point w i).0 (shape_at layout (side_of layout mesh y c))) (joined.twice x side h l)
     ∙ ap (λ (z : ℕ). side_spot side (station_point w i).0 (shape_at layout z)) (joined.again x side h l)
@@ -86,12 +86,12 @@ section-lift : (layout : Layout) (mesh : Mesh) (p j m e t : ℕ) → IsFitted la
     → Source layout mesh (number_at layout mesh p j) m (Inside p (first_at layout mesh p j + e)) t
 section-lift layout mesh p j m e t fit joined is some far (FromRow0 z) = AtStart z
 section-lift layout mesh p j m e t fit joined is some far (FromRegion r l lo hi s) = InOwn r l (by-own layout mesh p j r e t fit is lo hi (omega arith) s)
-section-lift layout mesh p j m e t fit joined is some far (FromLeft b k z s st) = station-block-at layout mesh p j 0 e m b k t fit joined is (omega arith) z s st
+section-lift layout mesh p j m e t fit joined is some far (FromLeft b k z s st) = station-block-at layout mesh p j 0 e m b k t fit joined is (omega arith) some z s st
 section-lift layout mesh p j m e t fit joined is some far (FromRight b k z s st) =
     let n : ℕ = count_at layout mesh p j in
     let a : ℕ = first_at layout mesh p j in
     let back : a + n - (n - e) ≡ a + e = omega arith in
-    subst (λ (x : ℕ). Source layout mesh (number_at layout mesh p j) m (Inside p x) t) back (station-block-at layout mesh p j 1 (n - e) m b k t fit joined is (omega arith) z s st)
+    subst (λ (x : ℕ). Source layout mesh (number_at layout mesh p j) m (Inside p x) t) back (station-block-at layout mesh p j 1 (n - e) m b k t fit joined is (omega arith) some z s st)
 
 -- ---- an inner place
 

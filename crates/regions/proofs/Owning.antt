@@ -359,7 +359,7 @@ partition steps wish mesh good some =
     let layout = layout_of steps mesh wish in
     let fit = fitted steps wish mesh good some in
     record {
-      owned = λ spot t x m h l e b r. region-owner layout mesh spot t x m fit h b r;
+      owned = λ spot t x m h b r. region-owner layout mesh spot t x m fit h b r;
       there = λ spot t h l e. (spot-owned layout mesh spot t fit h l e).0;
       inside = λ spot t h l e. (spot-owned layout mesh spot t fit h l e).1;
       first = λ p t h l. first-owner layout mesh p t fit h l;

@@ -28,7 +28,7 @@ Reads mesh (AtNode k) (Inside q j) = (c : ℕ) × (c < length (ends_of mesh k)) 
 pub data Source (layout : Layout) (mesh : Mesh) (x m : ℕ) (spot : Spot) (t : ℕ) : Type 0 where
   AtStart : t ≡ 0 → Source layout mesh x m spot t
   InOwn : (r : ℕ) → r ≤ m → InRegion layout x r spot t → Source layout mesh x m spot t
-  InBlock : (c b j : ℕ) → c < sides_of layout mesh x → needs_of (is_section layout x) m ≡ Some b → j < layout.window
+  InBlock : (c b j : ℕ) → c < sides_of layout mesh x → needs_of (is_section layout x) m ≡ Some b → b < layout.windows → j < layout.window
       → block_spot layout mesh (side_of layout mesh x c) (back_of layout mesh x c) j ≡ spot
       → block_step layout (side_of layout mesh x c) b j ≡ t → Source layout mesh x m spot t
 

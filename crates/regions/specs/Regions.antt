@@ -107,7 +107,7 @@ HasSpot mesh (Inside p i) = (p < length mesh.pipes) × (i ≤ reaches mesh p)
 -- to lie in a region is to have it as owner: each spot of the mesh, at each step of the windows, lies in
 -- exactly one region; the end of a pipe lies in that of its node
 pub record IsPartition (layout : Layout) (mesh : Mesh) : Type 0 where
-  pub owned : (spot : Spot) (t x m : ℕ) → HasSpot mesh spot → 1 ≤ t → t ≤ layout.windows * layout.window → x < length layout.shapes
+  pub owned : (spot : Spot) (t x m : ℕ) → HasSpot mesh spot → x < length layout.shapes
       → InRegion layout x m spot t → owner_of mesh layout.window spot t ≡ record { strand = x; region = m }
   pub there : (spot : Spot) (t : ℕ) → HasSpot mesh spot → 1 ≤ t → t ≤ layout.windows * layout.window
       → (owner_of mesh layout.window spot t).strand < length layout.shapes

@@ -45,7 +45,8 @@ side_in mesh w j (OfNode node) = section_at_end mesh w (end_at mesh node j)
 side_in mesh w j (OfSeam pipe place left right) = if j == 0 then left else right
 side_in mesh w j (OfSection pipe place count left right) = if j == 0 then left else right
 
--- which side of its station a section of this pipe is: the station's shape comes first
+-- which side of a station the section of pipe p is that ends there, at its last place or at place 0; the shape is
+-- the station's
 abbrev pub side_of_station : Mesh → ℕ → Bool → Shape → ℕ
 side_of_station mesh p last (OfNode node) = end_index mesh p last
 side_of_station mesh p last (OfSeam pipe place left right) = if last then 0 else 1
