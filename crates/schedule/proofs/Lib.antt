@@ -1,3 +1,4 @@
-pub mod Blocks
+pub mod Lists
 pub mod Turns
 pub mod Sound
+pub mod Found

@@ -4,8 +4,8 @@ use Rattle.std.specs.List.{range_with_len}
 use Rattle.schedule.specs.declared.events.Event.{Event}
 use Rattle.schedule.specs.declared.events.Event.TheVariants.{Enter, Leave}
 use Rattle.schedule.specs.Nets.{Net, IsNet, HasRegion, region_count, needed, written}
-use Rattle.schedule.specs.States.{State, start, run, AreLawful, MayEnter, MayLeave}
-use Rattle.schedule.specs.Order.{IsLeast}
+use Rattle.schedule.specs.States.{State, start, run, IsLawful, AreLawful, MayEnter, MayLeave}
+use Rattle.schedule.specs.Order.{IsLeast, AreAllLeft}
 
 -- counts that fit together: published and passed are those of the regions left, what an entered
 -- region needs is published, and what it writes has a slot
@@ -56,3 +56,7 @@ KeepsCounts = (net : Net) (events : List Event) → IsNet net → AreLawful net 
 -- the least region that isn't left may be entered, or it is entered and may be left
 abbrev pub IsAlwaysReady : Type 0
 IsAlwaysReady = (net : Net) (events : List Event) → IsNet net → AreLawful net start events → (x m : ℕ) → IsLeast net (run net start events) x m → MayEnter net (run net start events) x m ⊎ MayLeave net (run net start events) x m
+
+-- until all regions are left some event is lawful
+abbrev pub IsNeverStuck : Type 0
+IsNeverStuck = (net : Net) (events : List Event) → IsNet net → AreLawful net start events → ((e : Event) × IsLawful net (run net start events) e) ⊎ AreAllLeft net (run net start events)
