@@ -1,0 +1,6 @@
+mod Counting
+mod Cutting
+mod Listing
+mod Shaped
+mod Standing
+mod Windowed

@@ -1,0 +1,4 @@
+pub mod Cuts
+pub mod Layouts
+pub mod Numbers
+pub mod Sides

@@ -1,0 +1,12 @@
+//! How a mesh is cut into strands (nodes, seams, sections), and space and time into their regions.
+#![tactic(auto)]
+
+mod cuts;
+mod joints;
+mod layouts;
+mod numbers;
+mod shapes;
+mod sides;
+
+pub use layouts::layout;
+pub use shapes::{Layout, Shape, Spot};
