@@ -5,3 +5,4 @@ pub mod Rules
 pub mod Counted
 pub mod Countings
 pub mod Plans
+pub mod LayoutNets

@@ -3,8 +3,10 @@ ghost use Rattle.schedule.specs.Nets.{IsNet, needed_of, regions_of};
 ghost use Rattle.schedule.specs.Rules.{IsSound};
 ghost use Rattle.schedule.specs.Counted.{net_over, state_over, IsSized};
 
+use crate::nets::{kinds_of, links_of};
 use crate::{Event, Link};
-use case_model::List;
+use case_model::{List, Mesh};
+use regions::Layout;
 use std::alloc::{AllocError, Global};
 
 /// Strands with their neighbours, and of each the counts of regions entered and left. Blocks
@@ -43,10 +45,43 @@ fn regions(section: bool, windows: u64) -> u64
 
 impl Counts {
     ghost use Rattle.std.specs.Prelude.{ℕ, ◌+◌, ◌*◌, ◌/◌, ◌≤◌, ◌↔◌, IsTrue, MatchOption, length, List as Items, Bool, IfOk};
-    ghost use Rattle.schedule.specs.Nets.{HasRegion, needed as needed_blocks};
+    ghost use Rattle.case_model.specs.Mesh.{IsMesh};
+    ghost use Rattle.regions.specs.Cuts.{IsLimited};
+    ghost use Rattle.regions.specs.Sides.{AreMutual};
+    ghost use Rattle.schedule.specs.LayoutNets.{layout_net, IsCountable};
+    ghost use Rattle.schedule.specs.Nets.{HasRegion, IsSameNet, needed as needed_blocks};
     ghost use Rattle.schedule.specs.States.{IsLawful, MayEnter, MayLeave, after, start};
     ghost use Rattle.schedule.specs.Order.{turn_of, turn_count, AreLeftOf, AreLeftBefore, IsUnleft, IsPlaced};
     ghost use Rattle.schedule.specs.Countings.{net_in, state_in, IsAt};
+
+    /// The counts of a layout, all 0.
+    pub(crate) fn make(
+        alloc: Global,
+        layout: &Layout,
+        mesh: &Mesh,
+        slots: u64,
+    ) -> Result<Counts, AllocError>
+        requires mutual { AreMutual layout.now mesh.now }
+        requires countable { IsCountable layout.now }
+        requires mesh { IsMesh mesh.now }
+        requires limits { IsLimited mesh.now }
+        requires some { 1 ≤ slots }
+        ensures net { IfOk result (λ counts. IsSameNet (layout_net layout.now mesh.now slots) (net_in counts)) }
+        ensures state { IfOk result (λ counts. state_in counts ≡ start) }
+    {
+        let kinds = kinds_of(alloc, layout)?;
+        let links = links_of(alloc, layout, mesh)?;
+        let entered = vec![in alloc; 0; kinds.len()]?;
+        let left = vec![in alloc; 0; kinds.len()]?;
+        Ok(Counts {
+            kinds,
+            links,
+            windows: layout.windows,
+            slots,
+            entered,
+            left,
+        })
+    }
 
     /// Whether the event is lawful; not where the strand or the region isn't there.
     pub(crate) fn lawful(&self, event: &Event) -> bool

@@ -6,6 +6,7 @@ mod counts;
 mod events;
 mod laws;
 mod links;
+mod nets;
 mod order;
 mod plan;
 

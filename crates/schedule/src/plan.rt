@@ -4,6 +4,9 @@ ghost use Rattle.schedule.specs.Order.{IsPlaced};
 use crate::Event;
 use crate::counts::Counts;
 use crate::order::{Place, next_unleft};
+use case_model::Mesh;
+use regions::Layout;
+use std::alloc::{AllocError, Global};
 
 /// The schedule of all regions of a layout, and how far it has come. Only `make` takes memory.
 #[derive(Drop, Debug)]
@@ -14,10 +17,38 @@ pub struct Plan {
 }
 
 impl Plan {
-    ghost use Rattle.std.specs.Prelude.{◌≡◌, ◌⊎◌, ◌↔◌, IsTrue, IfSome, IfNone, None};
-    ghost use Rattle.schedule.specs.States.{IsLawful, MayEnter, MayLeave, after};
+    ghost use Rattle.std.specs.Prelude.{◌≡◌, ◌≤◌, ◌⊎◌, ◌↔◌, IsTrue, IfSome, IfNone, IfOk, None};
+    ghost use Rattle.case_model.specs.Mesh.{IsMesh};
+    ghost use Rattle.regions.specs.Cuts.{IsLimited};
+    ghost use Rattle.regions.specs.Sides.{AreMutual};
+    ghost use Rattle.schedule.specs.LayoutNets.{layout_net, IsCountable};
+    ghost use Rattle.schedule.specs.Nets.{IsNet, IsSameNet};
+    ghost use Rattle.schedule.specs.States.{IsLawful, MayEnter, MayLeave, after, start};
     ghost use Rattle.schedule.specs.Order.{IsLeast, AreAllLeft};
     ghost use Rattle.schedule.specs.Plans.{net_of, state_of};
+
+    /// The schedule of the layout of a mesh, of which nothing is entered, over so many slots for the
+    /// blocks of each strand. The error is want of memory.
+    pub fn make(
+        alloc: Global,
+        layout: &Layout,
+        mesh: &Mesh,
+        slots: u64,
+    ) -> Result<Plan, AllocError>
+        requires mutual { AreMutual layout.now mesh.now }
+        requires countable { IsCountable layout.now }
+        requires mesh { IsMesh mesh.now }
+        requires limits { IsLimited mesh.now }
+        requires some { 1 ≤ slots }
+        requires few { slots ≤ 8 }
+        ensures net { IfOk result (λ plan. IsSameNet (layout_net layout.now mesh.now slots) (net_of plan)) }
+        ensures mutual { IfOk result (λ plan. IsNet (net_of plan)) }
+        ensures state { IfOk result (λ plan. state_of plan ≡ start) }
+    {
+        let counts = Counts::make(alloc, layout, mesh, slots)?;
+        let place = next_unleft(&counts, Place { turn: 0, strand: 0 });
+        Ok(Plan { counts, place })
+    }
 
     /// Whether the event is lawful now; not where its strand or its region isn't there.
     pub fn lawful(&self, event: &Event) -> bool
