@@ -1,6 +1,10 @@
 mod Counting
 mod Cutting
+mod Joining
 mod Listing
+mod Pieces
 mod Shaped
 mod Standing
+mod Strands
 mod Windowed
+mod Wiring

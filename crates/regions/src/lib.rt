@@ -3,10 +3,12 @@
 
 mod cuts;
 mod joints;
+mod laws;
 mod layouts;
 mod numbers;
 mod shapes;
 mod sides;
 
+pub use laws::{division_is_wired, sides_are_mutual};
 pub use layouts::layout;
 pub use shapes::{Layout, Shape, Spot};
