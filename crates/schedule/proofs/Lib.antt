@@ -2,3 +2,4 @@ pub mod Lists
 pub mod Turns
 pub mod Sound
 pub mod Found
+pub mod Counted

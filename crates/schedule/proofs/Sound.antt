@@ -96,9 +96,10 @@ least-blocks net state x m b j n s p e l =
     let y = net.side x j in
     let i : net.side x j < net.strands = n.strand x j w l in
     let t = needs-turn (net.is_section x) (net.is_section (net.side x j)) m b net.windows (n.section x j w l) (n.station x j w l) e p.region.number in
-    let left : b < state.left (net.side x j) = left_past net state x m (net.side x j) b p (record { strand = i; number = t.0 }) t.1 in
-    (below-min b (state.left (net.side x j)) net.windows (state.published (net.side x j)) (s.published (net.side x j) i) left t.2,
-    (let q = s.passed x j w l ∙ ap (λ c. needed net x c) (left_is net state x m p) ∙ needs-low (net.is_section x) m b e in omega arith))
+    let left : b < state.left (net.side x j) = left_past net state x m (net.side x j) b p (record { strand = i; number = t.0 }) t.1 in (
+      below-min b (state.left (net.side x j)) net.windows (state.published (net.side x j)) (s.published (net.side x j) i) left t.2,
+      (let q = s.passed x j w l ∙ ap (λ c. needed net x c) (left_is net state x m p) ∙ needs-low (net.is_section x) m b e in omega arith),
+    )
 
 least-room : (net : Net) (state : State) (x m j : ℕ) → IsNet net → IsSound net state → IsLeast net state x m → m < net.windows → j < net.sides x
     → m < state.passed (net.side x j) (net.back x j) + net.slots
@@ -107,7 +108,7 @@ least-room net state x m j n s p h l =
     let i : net.side x j < net.strands = n.strand x j w l in
     let q = s.passed (net.side x j) (net.back x j) i (n.index x j w l) in
     let t = passed-turn (net.is_section x) (net.is_section (net.side x j)) m net.windows (state.left (net.side x j)) (n.section x j w l) (n.station x j w l) h
-        (λ k a b. left_past net state x m (net.side x j) k p (record { strand = i; number = a }) b) in
+    (λ k a b. left_past net state x m (net.side x j) k p (record { strand = i; number = a }) b) in
     let k : 1 ≤ net.slots = n.some in
     omega arith
 

@@ -32,21 +32,23 @@ pub left_none : (net : Net) (state : State) (turn low high : ℕ) → high ≤ l
 left_none net state turn low high h = record { left = λ y k l m e. absurd (omega arith) }
 
 pub left_more : (net : Net) (state : State) (turn low high : ℕ) → high < net.strands → AreLeftOf net state turn low high → (IsUnleft net state turn high → ⊥) → AreLeftOf net state turn low (high + 1)
-left_more net state turn low high w p n = record { left = λ y k l m e. elim (or-under y high) [
-  | inl b ↦ p.left y k l b e
-  | inr b ↦ elim (or-under k (state.left y)) [
-    | inl q ↦ q
-    | inr q ↦
-        let i : y ≡ high = omega arith in
-        let half : k ≡ turn / 2 = turn_half (net.is_section y) k turn e in
-        let low : state.left y ≤ turn / 2 = omega arith in
-        absurd (n (record {
-          there = w;
-          kind = subst (λ z. kind_rank (net.is_section z) ≡ turn % 2) i (turn_rest (net.is_section y) k turn e);
-          unleft = subst (λ z. state.left z ≤ turn / 2) i low;
-        }))
-  ]
-] }
+left_more net state turn low high w p n = record {
+  left = λ y k l m e. elim (or-under y high) [
+    | inl b ↦ p.left y k l b e
+    | inr b ↦ elim (or-under k (state.left y)) [
+      | inl q ↦ q
+      | inr q ↦
+          let i : y ≡ high = omega arith in
+          let half : k ≡ turn / 2 = turn_half (net.is_section y) k turn e in
+          let low : state.left y ≤ turn / 2 = omega arith in
+          absurd (n (record {
+            there = w;
+            kind = subst (λ z. kind_rank (net.is_section z) ≡ turn % 2) i (turn_rest (net.is_section y) k turn e);
+            unleft = subst (λ z. state.left z ≤ turn / 2) i low;
+          }))
+    ]
+  ];
+}
 
 pub left_to : (net : Net) (state : State) (turn low high end : ℕ) → AreLeftOf net state turn low high → end ≤ high → AreLeftOf net state turn low end
 left_to net state turn low high end p h = record { left = λ y k l m e. p.left y k l (omega arith) e }

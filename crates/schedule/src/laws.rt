@@ -1,6 +1,10 @@
-//! What every lawful list of events keeps, over any net. No function here does anything: each
-//! contract is a law.
-ghost use Rattle.std.specs.Prelude.{◌≡◌, List, ◌++◌};
+//! What every lawful list of events keeps, over any net, and which layouts can be planned. No
+//! function here does anything: each contract is a law.
+ghost use Rattle.std.specs.Prelude.{◌≡◌, ℕ, ◌≤◌, List, ◌++◌};
+ghost use Rattle.case_model.specs.declared.meshes.Mesh.{Mesh as MeshSeen};
+ghost use Rattle.regions.specs.Cuts.{IsLimited};
+ghost use Rattle.regions.specs.Layouts.{layout_of};
+ghost use Rattle.schedule.specs.LayoutNets.{IsCountable};
 ghost use Rattle.schedule.specs.declared.events.Event.{Event};
 ghost use Rattle.schedule.specs.Nets.{Net};
 ghost use Rattle.schedule.specs.States.{State, run, AreLawful};
@@ -39,4 +43,9 @@ pub fn lists_are_joined()
     ensures lawful { (net : Net) (state : State) (front rest : List Event) → AreLawful net state front → AreLawful net (run net state front) rest → AreLawful net state (front ++ rest) }
     ensures front { (net : Net) (state : State) (front rest : List Event) → AreLawful net state (front ++ rest) → AreLawful net state front }
     ensures rest { (net : Net) (state : State) (front rest : List Event) → AreLawful net state (front ++ rest) → AreLawful net (run net state front) rest }
+{}
+
+/// The strands and windows of a layout within its limits can be counted.
+pub fn layouts_are_countable()
+    ensures { (steps wish : ℕ) (mesh : MeshSeen) → IsLimited mesh → wish ≤ 64 → steps ≤ 100_000_000 → IsCountable (layout_of steps mesh wish) }
 {}

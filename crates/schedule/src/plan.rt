@@ -1,9 +1,9 @@
 ghost use Rattle.schedule.specs.Countings.{net_in, state_in};
 ghost use Rattle.schedule.specs.Order.{IsPlaced};
 
-use crate::Event;
 use crate::counts::Counts;
 use crate::order::{Place, next_unleft};
+use crate::{Event, Link};
 use case_model::Mesh;
 use regions::Layout;
 use std::alloc::{AllocError, Global};
@@ -17,7 +17,7 @@ pub struct Plan {
 }
 
 impl Plan {
-    ghost use Rattle.std.specs.Prelude.{◌≡◌, ◌≤◌, ◌⊎◌, ◌↔◌, IsTrue, IfSome, IfNone, IfOk, None};
+    ghost use Rattle.std.specs.Prelude.{◌≡◌, ◌<◌, ◌≤◌, ◌⊎◌, ◌↔◌, IsTrue, IfSome, IfNone, IfOk, None};
     ghost use Rattle.case_model.specs.Mesh.{IsMesh};
     ghost use Rattle.regions.specs.Cuts.{IsLimited};
     ghost use Rattle.regions.specs.Sides.{AreMutual};
@@ -29,12 +29,7 @@ impl Plan {
 
     /// The schedule of the layout of a mesh, of which nothing is entered, over so many slots for the
     /// blocks of each strand. The error is want of memory.
-    pub fn make(
-        alloc: Global,
-        layout: &Layout,
-        mesh: &Mesh,
-        slots: u64,
-    ) -> Result<Plan, AllocError>
+    pub fn make(alloc: Global, layout: &Layout, mesh: &Mesh, slots: u64) -> Result<Plan, AllocError>
         requires mutual { AreMutual layout.now mesh.now }
         requires countable { IsCountable layout.now }
         requires mesh { IsMesh mesh.now }
@@ -48,6 +43,24 @@ impl Plan {
         let counts = Counts::make(alloc, layout, mesh, slots)?;
         let place = next_unleft(&counts, Place { turn: 0, strand: 0 });
         Ok(Plan { counts, place })
+    }
+
+    /// How many neighbours a strand has.
+    pub fn sides(&self, strand: u32) -> usize
+        requires { strand < (net_of self.now).strands }
+        ensures { result ≡ (net_of self.now).sides strand }
+    {
+        self.counts.sides(strand)
+    }
+
+    /// The neighbour of a strand at this index, and the index at which that neighbour has the strand.
+    pub fn link(&self, strand: u32, index: usize) -> Link
+        requires strand { strand < (net_of self.now).strands }
+        requires index { index < (net_of self.now).sides strand }
+        ensures strand { result.strand ≡ (net_of self.now).side strand index }
+        ensures back { result.back ≡ (net_of self.now).back strand index }
+    {
+        self.counts.link(strand, index)
     }
 
     /// Whether the event is lawful now; not where its strand or its region isn't there.
