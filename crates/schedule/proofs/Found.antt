@@ -1,9 +1,8 @@
 -- The next place in the order is found, or all regions are left.
-use Rattle.std.proofs.Common.{◌≡◌, ◌≢◌, ℕ, ◌+◌, ◌*◌, ◌/◌, ◌%◌, ◌<◌, ◌≤◌, ◌⊎◌, inl, inr, Bool, zero, suc, List, refl, subst, arith}
-use Rattle.schedule.specs.declared.events.Event.{Event}
+use Rattle.std.proofs.Common.{◌≡◌, ℕ, ◌+◌, ◌/◌, ◌%◌, ◌<◌, ◌≤◌, ◌⊎◌, inl, inr, zero, suc, refl, subst, arith}
 use Rattle.schedule.specs.declared.events.Event.TheVariants.{Enter, Leave}
-use Rattle.schedule.specs.Nets.{Net, IsNet}
-use Rattle.schedule.specs.States.{State, start, run, IsLawful, AreLawful, MayEnter, MayLeave}
+use Rattle.schedule.specs.Nets.{Net}
+use Rattle.schedule.specs.States.{State, start, run}
 use Rattle.schedule.specs.Order.{IsLeast, AreAllLeft, IsUnleft, IsPlaced, AreLeftBefore, AreLeftOf, turn_count, kind_rank}
 use Rattle.schedule.specs.Rules.{IsNeverStuck}
 use Rattle.schedule.proofs.Lists.{always_ready}

@@ -3,3 +3,4 @@ pub mod Turns
 pub mod Sound
 pub mod Found
 pub mod Counted
+pub mod Kept

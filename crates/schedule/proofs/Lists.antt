@@ -1,17 +1,14 @@
 -- What lists of lawful events leave.
-use Rattle.std.proofs.Common.{◌≡◌, ◌≢◌, ◌∙◌, ℕ, ◌+◌, ◌-◌, ◌*◌, ◌<◌, ◌≤◌, ◌⊎◌, inl, inr, min, Bool, true, false, Option, Some, None, zero, suc, List, [], ◌∷◌, ◌++◌, length, refl, sym, ap, subst, cond, arith}
-use Rattle.std.specs.Prelude.{IfSome, nat_lt, ◌==◌, if◌then◌else◌}
+use Rattle.std.proofs.Common.{◌≡◌, ◌≢◌, ◌∙◌, ℕ, ◌+◌, ◌<◌, ◌≤◌, inl, inr, Bool, true, false, List, [], ◌∷◌, ◌++◌, length, refl, sym, ap, subst, arith}
 use Rattle.std.specs.List.{range_with_len}
 use Rattle.std.proofs.lemmas.Bool.{ne_eqb}
 use Rattle.std.proofs.Common.{eq-eqb}
 use Rattle.schedule.specs.declared.events.Event.{Event}
 use Rattle.schedule.specs.declared.events.Event.TheVariants.{Enter, Leave}
-use Rattle.schedule.specs.Nets.{Net, IsNet, HasRegion, needed, needed_of, written}
-use Rattle.schedule.specs.States.{State, start, raise, after, run, IsLawful, AreLawful, MayEnter, MayLeave}
-use Rattle.schedule.specs.Order.{IsLeast, AreAllLeft, IsUnleft, IsPlaced, AreLeftBefore, AreLeftOf, turn_count, turn_of, kind_rank}
-use Rattle.schedule.specs.Rules.{IsSound, IsWithinSlots, IsInOrder, entries, leavings, KeepsSlots, KeepsOrder, KeepsCounts, IsAlwaysReady}
+use Rattle.schedule.specs.Nets.{Net, IsNet, needed_of, written}
+use Rattle.schedule.specs.States.{State, start, raise, after, run, IsLawful, AreLawful}
+use Rattle.schedule.specs.Rules.{IsSound, IsWithinSlots, entries, leavings, KeepsSlots, KeepsOrder, KeepsCounts, IsAlwaysReady}
 use Rattle.schedule.proofs.Sound.{enter_sound, leave_sound, least_ready, raise-same, raise-other, same_or}
-use Rattle.schedule.proofs.Turns.{or-under}
 
 start_sound : (net : Net) → IsNet net → IsSound net start
 start_sound net n = record {

@@ -1,15 +1,15 @@
 -- What lawful events keep.
-use Rattle.std.proofs.Common.{◌≡◌, ◌≢◌, ◌∙◌, ℕ, ◌+◌, ◌-◌, ◌*◌, ◌<◌, ◌≤◌, ◌⊎◌, inl, inr, min, Bool, true, false, Option, Some, None, zero, suc, List, [], ◌∷◌, ◌++◌, length, refl, sym, ap, subst, cond, arith}
-use Rattle.std.specs.Prelude.{IfSome, nat_lt, ◌==◌, if◌then◌else◌}
+use Rattle.std.proofs.Common.{◌≡◌, ◌≢◌, ◌∙◌, ℕ, ◌+◌, ◌*◌, ◌<◌, ◌≤◌, ◌⊎◌, inl, inr, min, Bool, true, false, Option, Some, None, zero, suc, refl, sym, ap, subst, arith}
+use Rattle.std.specs.Prelude.{IfSome}
 use Rattle.std.proofs.lemmas.Bool.{lt-ltb, le-ltb, ne_eqb}
 use Rattle.std.proofs.Common.{eq-eqb}
 use Rattle.std.proofs.lemmas.Bool.Decides.{nat_tests}
 use Rattle.schedule.specs.declared.events.Event.{Event}
 use Rattle.schedule.specs.declared.events.Event.TheVariants.{Enter, Leave}
-use Rattle.schedule.specs.Nets.{Net, IsNet, HasRegion, regions_of, region_count, needs_of, needs, writes, count_in, needed_of, needed, written}
-use Rattle.schedule.specs.States.{State, start, raise, after, run, IsLawful, AreLawful, MayEnter, MayLeave}
-use Rattle.schedule.specs.Order.{IsLeast, turn_of, IsNoLater, kind_rank}
-use Rattle.schedule.specs.Rules.{IsSound, IsWithinSlots}
+use Rattle.schedule.specs.Nets.{Net, IsNet, HasRegion, regions_of, region_count, needs_of, needs, writes, needed_of, needed}
+use Rattle.schedule.specs.States.{State, raise, after, MayEnter, MayLeave}
+use Rattle.schedule.specs.Order.{IsLeast, turn_of, kind_rank}
+use Rattle.schedule.specs.Rules.{IsSound}
 use Rattle.schedule.proofs.Turns.{or-under}
 
 pub raise-same : (f : ℕ → ℕ) (x n : ℕ) → raise f x n x ≡ f x + n

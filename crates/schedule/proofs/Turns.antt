@@ -1,8 +1,8 @@
 -- Places in the order of regions.
-use Rattle.std.proofs.Common.{◌≡◌, ◌∙◌, ℕ, ◌+◌, ◌*◌, ◌/◌, ◌%◌, ◌<◌, ◌≤◌, ◌⊎◌, inl, inr, Bool, true, false, refl, sym, ap, subst, arith}
-use Rattle.schedule.specs.Nets.{Net, HasRegion, regions_of}
+use Rattle.std.proofs.Common.{◌≡◌, ◌∙◌, ℕ, ◌+◌, ◌*◌, ◌/◌, ◌%◌, ◌<◌, ◌≤◌, ◌⊎◌, inl, inr, Bool, true, false, sym, subst, arith}
+use Rattle.schedule.specs.Nets.{Net, regions_of}
 use Rattle.schedule.specs.States.{State}
-use Rattle.schedule.specs.Order.{kind_rank, turn_of, turn_count, AreLeftOf, AreLeftBefore, IsUnleft, IsPlaced, IsLeast, AreAllLeft, IsNoLater}
+use Rattle.schedule.specs.Order.{kind_rank, turn_of, turn_count, AreLeftOf, AreLeftBefore, IsUnleft, IsPlaced, IsLeast, AreAllLeft}
 
 pub or-under : (i j : ℕ) → (i < j) ⊎ (j ≤ i)
 or-under i j = grind arith

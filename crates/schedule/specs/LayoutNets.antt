@@ -1,5 +1,5 @@
 -- The net of a layout, and the lists that hold it.
-use Rattle.std.specs.Prelude.{◌≡◌, ℕ, ◌<◌, ◌≤◌, ◌^◌, Bool, false, List, [], length, slice_index_or}
+use Rattle.std.specs.Prelude.{◌≡◌, ℕ, ◌<◌, ◌^◌, Bool, false, List, [], length, slice_index_or}
 use Rattle.case_model.specs.declared.meshes.Mesh.{Mesh}
 use Rattle.regions.specs.declared.shapes.Layout.{Layout}
 use Rattle.regions.specs.Sides.{is_section, sides_of, side_of, back_of}

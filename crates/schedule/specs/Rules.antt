@@ -1,10 +1,10 @@
 -- What every lawful list of events keeps, and what it says of its events.
-use Rattle.std.specs.Prelude.{◌≡◌, ℕ, ◌+◌, ◌<◌, ◌≤◌, ◌⊎◌, ◌==◌, if◌then◌else◌, List, [], ◌∷◌, length}
+use Rattle.std.specs.Prelude.{◌≡◌, ◌≢◌, ℕ, ◌+◌, ◌<◌, ◌≤◌, ◌⊎◌, ◌==◌, if◌then◌else◌, List, [], ◌∷◌}
 use Rattle.std.specs.List.{range_with_len}
 use Rattle.schedule.specs.declared.events.Event.{Event}
 use Rattle.schedule.specs.declared.events.Event.TheVariants.{Enter, Leave}
-use Rattle.schedule.specs.Nets.{Net, IsNet, HasRegion, region_count, needed, written}
-use Rattle.schedule.specs.States.{State, start, run, IsLawful, AreLawful, MayEnter, MayLeave}
+use Rattle.schedule.specs.Nets.{Net, IsNet, region_count, needed, written}
+use Rattle.schedule.specs.States.{State, start, after, run, IsLawful, AreLawful, MayEnter, MayLeave}
 use Rattle.schedule.specs.Order.{IsLeast, AreAllLeft}
 
 -- counts that fit together: published and passed are those of the regions left, what an entered
@@ -60,3 +60,11 @@ IsAlwaysReady = (net : Net) (events : List Event) → IsNet net → AreLawful ne
 -- until all regions are left some event is lawful
 abbrev pub IsNeverStuck : Type 0
 IsNeverStuck = (net : Net) (events : List Event) → IsNet net → AreLawful net start events → ((e : Event) × IsLawful net (run net start events) e) ⊎ AreAllLeft net (run net start events)
+
+abbrev pub strand_of : Event → ℕ
+strand_of (Enter x m) = x
+strand_of (Leave x m) = x
+
+-- what is lawful for a strand stays so while events of other strands are taken in
+abbrev pub StaysLawful : Type 0
+StaysLawful = (net : Net) (state : State) (e other : Event) → strand_of e ≢ strand_of other → IsLawful net state e → IsLawful net (after net state other) e

@@ -8,7 +8,7 @@ ghost use Rattle.schedule.specs.LayoutNets.{IsCountable};
 ghost use Rattle.schedule.specs.declared.events.Event.{Event};
 ghost use Rattle.schedule.specs.Nets.{Net};
 ghost use Rattle.schedule.specs.States.{State, run, AreLawful};
-ghost use Rattle.schedule.specs.Rules.{KeepsOrder, KeepsSlots, KeepsCounts, IsAlwaysReady, IsNeverStuck};
+ghost use Rattle.schedule.specs.Rules.{KeepsOrder, KeepsSlots, KeepsCounts, IsAlwaysReady, IsNeverStuck, StaysLawful};
 
 /// Each strand's regions are entered, and left, each once at most and in order.
 pub fn lists_keep_order()
@@ -35,6 +35,11 @@ pub fn least_is_ready()
 /// Until all regions are left, some event is lawful.
 pub fn never_stuck()
     ensures { IsNeverStuck }
+{}
+
+/// What is lawful for a strand stays so while events of other strands are taken in.
+pub fn lawful_stays_lawful()
+    ensures { StaysLawful }
 {}
 
 /// A list is lawful exactly where its front is and, from the state that this leaves, the rest.

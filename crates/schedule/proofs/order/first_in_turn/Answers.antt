@@ -1,4 +1,4 @@
-use Rattle.std.proofs.Common.{◌≡◌, false, true, ℕ, ◌+◌, ◌<◌, ◌≤◌, length, arith}
+use Rattle.std.proofs.Common.{◌≡◌, false, true, length, arith}
 use Rattle.schedule.specs.Countings.{net_in, state_in}
 use Rattle.schedule.proofs.Turns.{left_more, left_to}
 use Rattle.schedule.proofs.order.first_in_turn.Goals as goal

@@ -1,4 +1,4 @@
-use Rattle.std.proofs.Common.{◌≡◌, ℕ, ◌+◌, ◌*◌, ◌<◌, ◌≤◌, length, refl, arith}
+use Rattle.std.proofs.Common.{◌+◌, ◌*◌, refl, arith}
 use Rattle.schedule.specs.Countings.{net_in, state_in}
 use Rattle.schedule.proofs.Turns.{placed_at, next_turn, placed_end}
 use Rattle.schedule.proofs.order.next_unleft.Goals as goal

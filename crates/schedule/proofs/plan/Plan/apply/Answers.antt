@@ -1,4 +1,3 @@
-use Rattle.std.proofs.Common.{◌≡◌, ℕ}
 use Rattle.schedule.specs.States.{after}
 use Rattle.schedule.specs.Countings.{net_in, state_in}
 use Rattle.schedule.specs.Plans.{net_of, state_of}

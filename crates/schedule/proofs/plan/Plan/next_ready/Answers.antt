@@ -1,4 +1,4 @@
-use Rattle.std.proofs.Common.{◌≡◌, ℕ, ◌+◌, ◌*◌, ◌/◌, ◌<◌, ◌≤◌, arith}
+use Rattle.std.proofs.Common.{◌/◌, arith}
 use Rattle.schedule.specs.Plans.{net_of, state_of}
 use Rattle.schedule.proofs.Sound.{least_ready}
 use Rattle.schedule.proofs.Turns.{least_at, all_left, not_all_left}
