@@ -65,3 +65,8 @@ cut-more w n i (suc j) h = elim (cases_lt i (suc j)) [
   | inl k ↦ let m = cut-more w n i j (omega arith) in omega arith
   | inr k ↦ let e : i ≡ suc j = omega arith in rw e (omega arith)
 ]
+
+-- a later section has as many reaches as an earlier one, or one fewer
+pub reaches-even : (w n i j : ℕ) → i ≤ j → (section_reaches w n j ≤ section_reaches w n i) × (section_reaches w n i ≤ section_reaches w n j + 1)
+unfolding section_reaches
+reaches-even w n i j h = (grind (arith, nat_tests), grind (arith, nat_tests))

@@ -32,7 +32,7 @@ pub any-index : {X : Type 0} (p : X → Bool) (xs : List X) (d : X) → list_any
 any-index p [] d h = cc
 any-index p (x ∷ xs) d h = any-cons p x xs d (p x) refl h (any-index p xs d)
 
-passes : {X : Type 0} (q : X → Bool) (xs : List X) (k : ℕ) (d : X) → k < length xs → q (get_or xs k d) ≡ true → position_or_len q xs < length xs
+pub passes : {X : Type 0} (q : X → Bool) (xs : List X) (k : ℕ) (d : X) → k < length xs → q (get_or xs k d) ≡ true → position_or_len q xs < length xs
 passes q xs k d l h = elim (cases_lt (position_or_len q xs) (length xs)) [
   | inl b ↦ b
   | inr b ↦ let f = fails_before_first q xs k d (omega arith) in absurd (grind (arith, h, f))
@@ -85,19 +85,19 @@ not_not true = refl
 not_not false = refl
 
 -- what a strand's shape says of its sides
-side-from : (layout : Layout) (mesh : Mesh) (w x j : ℕ) (s : Shape) → IsOver layout mesh w → shape_at layout x ≡ s → side_of layout mesh x j ≡ side_in mesh w j s
+pub side-from : (layout : Layout) (mesh : Mesh) (w x j : ℕ) (s : Shape) → IsOver layout mesh w → shape_at layout x ≡ s → side_of layout mesh x j ≡ side_in mesh w j s
 unfolding side_of
 side-from layout mesh w x j s o e = ap (λ (u : ℕ). side_in mesh u j (shape_at layout x)) o.window ∙ ap (side_in mesh w j) e
 
-back-from : (layout : Layout) (mesh : Mesh) (x j : ℕ) (s : Shape) → shape_at layout x ≡ s → back_of layout mesh x j ≡ back_in layout mesh j s
+pub back-from : (layout : Layout) (mesh : Mesh) (x j : ℕ) (s : Shape) → shape_at layout x ≡ s → back_of layout mesh x j ≡ back_in layout mesh j s
 unfolding back_of
 back-from layout mesh x j s e = ap (back_in layout mesh j) e
 
-sides-from : (layout : Layout) (mesh : Mesh) (x : ℕ) (s : Shape) → shape_at layout x ≡ s → sides_of layout mesh x ≡ sides_in mesh s
+pub sides-from : (layout : Layout) (mesh : Mesh) (x : ℕ) (s : Shape) → shape_at layout x ≡ s → sides_of layout mesh x ≡ sides_in mesh s
 unfolding sides_of
 sides-from layout mesh x s e = ap (sides_in mesh) e
 
-kind-from : (layout : Layout) (x : ℕ) (s : Shape) → shape_at layout x ≡ s → is_section layout x ≡ is_section_shape s
+pub kind-from : (layout : Layout) (x : ℕ) (s : Shape) → shape_at layout x ≡ s → is_section layout x ≡ is_section_shape s
 kind-from layout x s e = ap is_section_shape e
 
 both : (layout : Layout) (mesh : Mesh) (x j y b : ℕ) → side_of layout mesh x j ≡ y → back_of layout mesh x j ≡ b → side_of layout mesh y b ≡ x → back_of layout mesh y b ≡ j
@@ -203,10 +203,16 @@ turned layout mesh x j y b n = record { to = n.from; from = n.to }
 side-of_node : (layout : Layout) (mesh : Mesh) (w k j : ℕ) (e : End) → IsOver layout mesh w → IsMesh mesh → e.pipe < length mesh.pipes → end_node mesh e.pipe e.at_last ≡ k → end_index mesh e.pipe e.at_last ≡ j → HasSide layout mesh k j
 side-of_node layout mesh w k j e o good h n i =
     elim e.at_last as (λ (last : Bool). end_node mesh e.pipe last ≡ k → end_index mesh e.pipe last ≡ j → HasSide layout mesh k j) [
-      | false ↦ λ m l. record { other = section_number mesh w e.pipe 0; index = 0;
-          joined = turned layout mesh _ 0 k j (subst (λ (z : ℕ). AreNeighbours layout mesh (section_number mesh w e.pipe 0) 0 k z) l (subst (λ (z : ℕ). AreNeighbours layout mesh (section_number mesh w e.pipe 0) 0 z (end_index mesh e.pipe false)) m (end-first layout mesh w e.pipe o good h))) }
-      | true ↦ λ m l. record { other = section_number mesh w e.pipe (sections_at mesh w e.pipe - 1); index = 1;
-          joined = turned layout mesh _ 1 k j (subst (λ (z : ℕ). AreNeighbours layout mesh (section_number mesh w e.pipe (sections_at mesh w e.pipe - 1)) 1 k z) l (subst (λ (z : ℕ). AreNeighbours layout mesh (section_number mesh w e.pipe (sections_at mesh w e.pipe - 1)) 1 z (end_index mesh e.pipe true)) m (end-last layout mesh w e.pipe o good h))) }
+      | false ↦ λ m l. record {
+        other = section_number mesh w e.pipe 0;
+        index = 0;
+        joined = turned layout mesh _ 0 k j (subst (λ (z : ℕ). AreNeighbours layout mesh (section_number mesh w e.pipe 0) 0 k z) l (subst (λ (z : ℕ). AreNeighbours layout mesh (section_number mesh w e.pipe 0) 0 z (end_index mesh e.pipe false)) m (end-first layout mesh w e.pipe o good h)));
+      }
+      | true ↦ λ m l. record {
+        other = section_number mesh w e.pipe (sections_at mesh w e.pipe - 1);
+        index = 1;
+        joined = turned layout mesh _ 1 k j (subst (λ (z : ℕ). AreNeighbours layout mesh (section_number mesh w e.pipe (sections_at mesh w e.pipe - 1)) 1 k z) l (subst (λ (z : ℕ). AreNeighbours layout mesh (section_number mesh w e.pipe (sections_at mesh w e.pipe - 1)) 1 z (end_index mesh e.pipe true)) m (end-last layout mesh w e.pipe o good h)));
+      }
     ] n i
 
 two : (j : ℕ) → j < 2 → (j ≡ 0) ⊎ (j ≡ 1)
@@ -220,16 +226,22 @@ side-of_seam layout mesh w p i x j o h b e l = elim (two j l) [
 
 left-of_section : (layout : Layout) (mesh : Mesh) (w p i : ℕ) → IsOver layout mesh w → IsMesh mesh → p < length mesh.pipes → i < sections_at mesh w p → HasSide layout mesh (section_number mesh w p i) 0
 left-of_section layout mesh w p zero o good h b = record { other = end_node mesh p false; index = end_index mesh p false; joined = end-first layout mesh w p o good h }
-left-of_section layout mesh w p (suc i) o good h b = record { other = length mesh.ends + seams_before mesh w p + i; index = 1;
-  joined = subst (λ (z : ℕ). AreNeighbours layout mesh (section_number mesh w p z) 0 (length mesh.ends + seams_before mesh w p + i) 1) (add-one i) (seam-right layout mesh w p i _ o h (omega arith) refl) }
+left-of_section layout mesh w p (suc i) o good h b = record {
+  other = length mesh.ends + seams_before mesh w p + i;
+  index = 1;
+  joined = subst (λ (z : ℕ). AreNeighbours layout mesh (section_number mesh w p z) 0 (length mesh.ends + seams_before mesh w p + i) 1) (add-one i) (seam-right layout mesh w p i _ o h (omega arith) refl);
+}
 
 right-of_section : (layout : Layout) (mesh : Mesh) (w p i : ℕ) → IsOver layout mesh w → IsMesh mesh → p < length mesh.pipes → i < sections_at mesh w p → HasSide layout mesh (section_number mesh w p i) 1
 right-of_section layout mesh w p i o good h b = elim (cases_lt (i + 1) (sections_at mesh w p)) [
   | inl l ↦ record { other = length mesh.ends + seams_before mesh w p + i; index = 0; joined = seam-left layout mesh w p i _ o h l refl }
   | inr l ↦
       let e : sections_at mesh w p - 1 ≡ i = omega arith in
-      record { other = end_node mesh p true; index = end_index mesh p true;
-        joined = subst (λ (z : ℕ). AreNeighbours layout mesh (section_number mesh w p z) 1 (end_node mesh p true) (end_index mesh p true)) e (end-last layout mesh w p o good h) }
+      record {
+        other = end_node mesh p true;
+        index = end_index mesh p true;
+        joined = subst (λ (z : ℕ). AreNeighbours layout mesh (section_number mesh w p z) 1 (end_node mesh p true) (end_index mesh p true)) e (end-last layout mesh w p o good h);
+      }
 ]
 
 has-side : (layout : Layout) (mesh : Mesh) (w x j : ℕ) → IsOver layout mesh w → IsMesh mesh → IsWired mesh → x < length layout.shapes → j < sides_of layout mesh x → HasSide layout mesh x j

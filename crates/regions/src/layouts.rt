@@ -3,6 +3,7 @@ ghost use Rattle.std.specs.List.{flat_map, range_with_len};
 ghost use Rattle.case_model.specs.Mesh.{IsMesh};
 ghost use Rattle.regions.specs.declared.shapes.Shape.TheVariants.{OfNode};
 ghost use Rattle.regions.specs.Cuts.{IsLimited};
+ghost use Rattle.regions.specs.Regions.{IsWhole};
 ghost use Rattle.regions.specs.Layouts.{seams_of, sections_of, layout_of};
 
 use crate::cuts::{next_cut, section_reaches, window, windows};
@@ -20,7 +21,8 @@ pub fn layout(alloc: Global, case: &Case, mesh: &Mesh, wish: u64) -> Result<Layo
     requires few_steps { case.now.steps ≤ 100_000_000 }
     requires some { 1 ≤ wish }
     requires few { wish ≤ 64 }
-    ensures { IfOk result (λ layout. layout ≡ layout_of case.now.steps mesh.now wish) }
+    ensures layout { IfOk result (λ layout. layout ≡ layout_of case.now.steps mesh.now wish) }
+    ensures whole { IfOk result (λ layout. IsWhole layout) }
 {
     let window = window(mesh, wish);
     let windows = windows(window, case.steps);

@@ -69,7 +69,7 @@ impl Layout {
     }
 
     // The shape of a strand; node 0 where there is none.
-    fn shape_at(&self, strand: u32) -> Shape
+    pub(crate) fn shape_at(&self, strand: u32) -> Shape
         ensures { result ≡ shape_is self.now strand }
     {
         match self.shapes.as_slice().get(strand as usize) {
