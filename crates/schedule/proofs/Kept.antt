@@ -1,10 +1,10 @@
 -- What is lawful for one strand stays so while others go on.
-use Rattle.std.proofs.Common.{◌≡◌, ◌≢◌, ◌∙◌, ℕ, ◌+◌, ◌<◌, ◌≤◌, Option, Some, None, refl, arith}
+use Rattle.std.proofs.Common.{◌≡◌, ◌≢◌, ◌∙◌, ℕ, ◌<◌, ◌≤◌, Option, Some, None, refl, arith}
 use Rattle.std.specs.Prelude.{IfSome}
 use Rattle.schedule.specs.declared.events.Event.{Event}
 use Rattle.schedule.specs.declared.events.Event.TheVariants.{Enter, Leave}
 use Rattle.schedule.specs.Nets.{Net, needs, writes, count_in}
-use Rattle.schedule.specs.States.{State, raise, after, IsLawful, MayEnter, MayLeave}
+use Rattle.schedule.specs.States.{State, after, MayEnter, MayLeave}
 use Rattle.schedule.specs.Rules.{StaysLawful, strand_of}
 use Rattle.schedule.proofs.Sound.{raise-other, raise-more}
 
