@@ -1,4 +1,5 @@
 mod Blocking
+mod Checked
 mod Counting
 mod Cutting
 mod Joining

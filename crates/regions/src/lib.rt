@@ -13,8 +13,8 @@ mod shapes;
 mod sides;
 
 pub use laws::{
-    blocks_are_in_order, cuts_follow_the_window, division_is_wired, layouts_are_whole, needs_are_enough,
-    regions_are_a_partition, sides_are_mutual,
+    blocks_are_in_order, cuts_follow_the_window, division_is_wired, layouts_are_whole,
+    needs_are_enough, regions_are_a_partition, sides_are_mutual,
 };
 pub use layouts::layout;
 pub use shapes::{Layout, Shape, Spot};
