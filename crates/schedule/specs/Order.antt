@@ -3,6 +3,7 @@ use Rattle.std.specs.Prelude.{◌≡◌, ℕ, ◌+◌, ◌*◌, ◌/◌, ◌%◌
 use Rattle.schedule.specs.Nets.{Net, HasRegion}
 use Rattle.schedule.specs.States.{State}
 
+-- sections come before stations
 abbrev pub kind_rank : Bool → ℕ
 kind_rank true = 0
 kind_rank false = 1
