@@ -1,8 +1,6 @@
 -- The points of blocks, in order, and where they lie.
-use Rattle.std.proofs.Common.{◌≡◌, ℕ, zero, suc, ◌+◌, ◌-◌, ◌*◌, ◌/◌, ◌%◌, ◌<◌, ◌≤◌, ◌⊎◌, inl, inr, ◌==◌, true, false, refl, ap, subst, sym, ◌∙◌, add-one, arith, eq-eqb}
-use Rattle.std.specs.Prelude.{min, if◌then◌else◌}
-use Rattle.std.proofs.lemmas.Bool.{cases_lt, ne_eqb, cases_order}
-use Rattle.std.proofs.lemmas.Bool.Decides.{nat_tests}
+use Rattle.std.proofs.Common.{◌≡◌, ℕ, ◌+◌, ◌-◌, ◌/◌, ◌%◌, ◌<◌, inl, inr, refl, ap, ◌∙◌, arith, eq-eqb}
+use Rattle.std.proofs.lemmas.Bool.{cases_lt, ne_eqb}
 use Rattle.regions.specs.Blocks.{InSectionBlock, InStationBlock, section_point, station_point, section_index, station_index, IsEarlier, AreInOrder}
 
 abbrev pair : ℕ → ℕ → ℕ × ℕ

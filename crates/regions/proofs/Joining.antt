@@ -1,9 +1,8 @@
 -- Neighbouring strands have each other as sides.
-use Rattle.std.proofs.Common.{◌≡◌, ◌≢◌, ℕ, zero, suc, ◌+◌, ◌-◌, ◌<◌, ◌≤◌, ◌⊎◌, inl, inr, ◌==◌, ◌&&◌, not, Bool, true, false, List, [], ◌∷◌, length, get_or, refl, ap, subst, sym, ◌∙◌, add-one, arith, eq-eqb}
-use Rattle.std.specs.Prelude.{if◌then◌else◌, ◌||◌, nat_lt}
-use Rattle.std.specs.List.{AllByRecursion, list_any, position_or_len}
-use Rattle.std.proofs.lemmas.Bool.{and_parts, cases_lt, ne_eqb, eqb-true}
-use Rattle.std.proofs.lemmas.Bool.Decides.{nat_tests}
+use Rattle.std.proofs.Common.{◌≡◌, ℕ, zero, suc, ◌+◌, ◌-◌, ◌<◌, ◌⊎◌, inl, inr, ◌==◌, not, Bool, true, false, List, [], ◌∷◌, length, get_or, refl, ap, subst, sym, ◌∙◌, add-one, arith}
+use Rattle.std.specs.Prelude.{if◌then◌else◌, ◌||◌}
+use Rattle.std.specs.List.{list_any, position_or_len}
+use Rattle.std.proofs.lemmas.Bool.{and_parts, cases_lt, eqb-true}
 use Rattle.std.proofs.lemmas.List.Elements.{All-from_recursion}
 use Rattle.std.proofs.lemmas.List.Sums.{fails_before_first, passes_at_first}
 use Rattle.case_model.specs.declared.meshes.End.{End}
@@ -11,13 +10,12 @@ use Rattle.case_model.specs.declared.meshes.Mesh.{Mesh}
 use Rattle.case_model.specs.Mesh.{IsMesh, reaches, ends_of, is_end, end_node, end_index}
 use Rattle.regions.specs.declared.shapes.Layout.{Layout}
 use Rattle.regions.specs.declared.shapes.Shape.{Shape}
-use Rattle.regions.specs.declared.shapes.Shape.TheVariants.{OfNode, OfSeam, OfSection}
 use Rattle.regions.specs.Cuts.{window_of}
-use Rattle.regions.specs.Layouts.{sections_at, seams_before, section_number, station_number, seam_shape, section_shape, layout_of}
+use Rattle.regions.specs.Layouts.{sections_at, seams_before, section_number, station_number, layout_of}
 use Rattle.regions.specs.Sides.{no_end, end_at, shape_at, is_section_shape, is_section, sides_in, section_at_end, side_in, side_of_station, back_in, sides_of, side_of, back_of, AreMutual, IsWired}
 use Rattle.regions.proofs.Cutting.{sections-some}
 use Rattle.regions.proofs.Standing.{station-first, station-last, station-seam}
-use Rattle.regions.proofs.Strands.{IsOver, layout-over, shape-node, shape-seam, shape-section, Strand, strand, seam-inside, section-inside, node-inside}
+use Rattle.regions.proofs.Strands.{IsOver, layout-over, shape-node, shape-seam, shape-section, strand, seam-inside, section-inside, node-inside}
 use Rattle.regions.proofs.Strands.Strand.{IsNode, IsSeam, IsSection}
 
 -- ---- the end of a pipe at its node

@@ -1,5 +1,5 @@
 -- What a region needs is enough for its points.
-use Rattle.std.proofs.Common.{◌≡◌, ℕ, zero, suc, ◌+◌, ◌-◌, ◌*◌, ◌<◌, ◌≤◌, ◌⊎◌, inl, inr, not, Bool, true, false, Option, Some, None, List, length, refl, ap, subst, sym, ◌∙◌, add-one, arith}
+use Rattle.std.proofs.Common.{◌≡◌, ℕ, zero, suc, ◌+◌, ◌-◌, ◌*◌, ◌<◌, ◌≤◌, inl, inr, not, Bool, true, false, length, ap, subst, sym, ◌∙◌, add-one, arith}
 use Rattle.std.specs.Prelude.{if◌then◌else◌}
 use Rattle.std.proofs.lemmas.Bool.{cases_lt}
 use Rattle.std.proofs.lemmas.List.Elements.{All-from_recursion}
@@ -8,15 +8,15 @@ use Rattle.case_model.specs.declared.meshes.Mesh.{Mesh}
 use Rattle.case_model.specs.Mesh.{reaches, ends_of, next_to, IsMesh}
 use Rattle.regions.specs.declared.shapes.Layout.{Layout}
 use Rattle.regions.specs.declared.shapes.Shape.{Shape}
-use Rattle.regions.specs.declared.shapes.Shape.TheVariants.{OfNode, OfSeam, OfSection}
+use Rattle.regions.specs.declared.shapes.Shape.TheVariants.{OfNode}
 use Rattle.regions.specs.declared.shapes.Spot.{Spot}
 use Rattle.regions.specs.declared.shapes.Spot.TheVariants.{AtNode, Inside}
-use Rattle.regions.specs.Blocks.{InSectionBlock, InStationBlock, section_point, station_point, section_index, station_index, side_spot, block_spot, block_step}
-use Rattle.regions.specs.Cuts.{sections, section_reaches, cut}
+use Rattle.regions.specs.Blocks.{InStationBlock, section_point, station_point, section_index, station_index, side_spot, block_spot, block_step}
+use Rattle.regions.specs.Cuts.{sections, cut}
 use Rattle.regions.specs.Layouts.{sections_at, section_number, station_number, section_shape, layout_of}
 use Rattle.regions.specs.Needs.{needs_of, Reads, Source, AreEnough}
 use Rattle.regions.specs.Needs.Source.{AtStart, InOwn, InBlock}
-use Rattle.regions.specs.Regions.{InStation, InSection, InStationBy, InStations, InShape, InRegion, HasSpot}
+use Rattle.regions.specs.Regions.{InStation, InStationBy, InStations, InShape, InRegion}
 use Rattle.regions.specs.Sides.{no_end, end_at, shape_at, is_section, sides_of, side_of, back_of, AreMutual, IsWired}
 use Rattle.regions.proofs.Blocking.{sections-in-order, stations-in-order}
 use Rattle.regions.proofs.Cutting.{sections-some, cut-next, cut-last, reaches-long}
@@ -25,7 +25,7 @@ use Rattle.regions.proofs.Placing.{StationSource, station-reads, SectionSource, 
 use Rattle.regions.proofs.Placing.StationSource.{FromStart, FromStation, FromSection}
 use Rattle.regions.proofs.Placing.SectionSource.{FromRow0, FromRegion, FromLeft, FromRight}
 use Rattle.regions.proofs.Reading.{IsSectionAt, count_at, first_at, number_at, spot_at, shape-of, there-of, kind-of, count-of, left-side, right-side, by-side, by-own, section-spot, station-spot, section-step, station-step}
-use Rattle.regions.proofs.Strands.{node-inside, shape-node, shape-seam, shape-section, Strand, strand}
+use Rattle.regions.proofs.Strands.{node-inside, shape-node, shape-seam, shape-section, strand}
 use Rattle.regions.proofs.Strands.Strand.{IsNode, IsSeam, IsSection}
 use Rattle.regions.proofs.Whole.{IsFitted, fitted}
 

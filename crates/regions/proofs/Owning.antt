@@ -1,5 +1,5 @@
 -- To lie in a region is to have it as owner.
-use Rattle.std.proofs.Common.{◌≡◌, ℕ, zero, suc, ◌+◌, ◌-◌, ◌*◌, ◌/◌, ◌<◌, ◌≤◌, ◌⊎◌, inl, inr, true, false, List, length, get_or, refl, ap, subst, sym, ◌∙◌, add-one, arith}
+use Rattle.std.proofs.Common.{◌≡◌, ℕ, zero, suc, ◌+◌, ◌-◌, ◌*◌, ◌/◌, ◌<◌, ◌≤◌, ◌⊎◌, inl, inr, true, false, length, get_or, refl, ap, subst, sym, ◌∙◌, add-one, arith}
 use Rattle.std.specs.Prelude.{nat_le}
 use Rattle.std.specs.List.{position_or_len, range_with_len}
 use Rattle.std.proofs.lemmas.Bool.{cases_lt}
@@ -13,21 +13,21 @@ use Rattle.regions.specs.declared.parts.Part.{Part}
 use Rattle.regions.specs.declared.parts.Part.TheVariants.{Own, Left, Right}
 use Rattle.regions.specs.declared.shapes.Layout.{Layout}
 use Rattle.regions.specs.declared.shapes.Shape.{Shape}
-use Rattle.regions.specs.declared.shapes.Shape.TheVariants.{OfNode, OfSeam, OfSection}
+use Rattle.regions.specs.declared.shapes.Shape.TheVariants.{OfNode, OfSeam}
 use Rattle.regions.specs.declared.shapes.Spot.{Spot}
 use Rattle.regions.specs.declared.shapes.Spot.TheVariants.{AtNode, Inside}
 use Rattle.regions.specs.Cuts.{sections, section_reaches, cut}
-use Rattle.regions.specs.Layouts.{sections_at, seams_before, section_number, station_number, section_shape, layout_of}
-use Rattle.regions.specs.Regions.{tall, InStation, InBand, InSection, InStationBy, InStations, InShape, InRegion, part_of, section_of, Owner, owner_by, place_owner, owner_of, HasSpot, IsPartition}
+use Rattle.regions.specs.Layouts.{sections_at, section_number, station_number, section_shape, layout_of}
+use Rattle.regions.specs.Regions.{InStation, InSection, InStationBy, InStations, InShape, InRegion, part_of, section_of, Owner, owner_by, place_owner, owner_of, HasSpot, IsPartition}
 use Rattle.regions.specs.Sides.{shape_at}
 use Rattle.regions.proofs.Cutting.{sections-some, cut-next, cut-more, cut-last, reaches-long}
 use Rattle.regions.proofs.Joining.{passes}
-use Rattle.regions.proofs.Parting.{window_is, window_of_step, left_part, right_part, section_part, Somewhere, somewhere}
+use Rattle.regions.proofs.Parting.{window_is, window_of_step, left_part, right_part, section_part, somewhere}
 use Rattle.regions.proofs.Parting.Somewhere.{InOwn, InLeft, InRight}
 use Rattle.regions.proofs.Standing.{station-first, station-last, station-seam}
-use Rattle.regions.proofs.Strands.{IsOver, shape-node, shape-seam, shape-section, Strand, strand, seam-inside, section-inside, node-inside}
+use Rattle.regions.proofs.Strands.{shape-node, shape-seam, shape-section, strand, seam-inside, section-inside, node-inside}
 use Rattle.regions.proofs.Strands.Strand.{IsNode, IsSeam, IsSection}
-use Rattle.regions.proofs.Whole.{IsFitted, fitted, cut-end}
+use Rattle.regions.proofs.Whole.{IsFitted, fitted}
 
 -- ---- the section of a place
 

@@ -1,10 +1,9 @@
 -- Each place of a section, at each step, is in exactly one region: the section's or a station's.
-use Rattle.std.proofs.Common.{◌≡◌, ℕ, zero, suc, ◌+◌, ◌-◌, ◌*◌, ◌/◌, ◌<◌, ◌≤◌, ◌⊎◌, inl, inr, ◌==◌, true, false, refl, ap, subst, sym, ◌∙◌, add-one, arith, eq-eqb}
-use Rattle.std.specs.Prelude.{min, nat_le, IsTrue, ◌↔◌, if◌then◌else◌}
+use Rattle.std.proofs.Common.{◌≡◌, ℕ, zero, suc, ◌+◌, ◌-◌, ◌*◌, ◌/◌, ◌<◌, ◌≤◌, inl, inr, ◌==◌, true, false, refl, ap, subst, sym, ◌∙◌, add-one, arith, eq-eqb}
+use Rattle.std.specs.Prelude.{nat_le, IsTrue, ◌↔◌}
 use Rattle.std.proofs.lemmas.Bool.{cases_lt, eqb-true}
 use Rattle.std.proofs.lemmas.Bool.Decides.{nat_tests}
 use Rattle.std.proofs.lemmas.Nat.{le-div, div_below}
-use Rattle.regions.specs.declared.parts.Part.{Part}
 use Rattle.regions.specs.declared.parts.Part.TheVariants.{Own, Left, Right}
 use Rattle.regions.specs.Regions.{tall, InStation, InBand, InSection, part_from, part_of}
 

@@ -1,11 +1,10 @@
 -- In one section: where the points of blocks lie, and what the points of regions read.
-use Rattle.std.proofs.Common.{◌≡◌, ℕ, zero, suc, ◌+◌, ◌-◌, ◌*◌, ◌<◌, ◌≤◌, ◌⊎◌, inl, inr, refl, ap, subst, sym, ◌∙◌, add-one, arith}
-use Rattle.std.specs.Prelude.{min}
+use Rattle.std.proofs.Common.{◌≡◌, ℕ, zero, suc, ◌+◌, ◌-◌, ◌*◌, ◌<◌, ◌≤◌, ◌⊎◌, inl, inr, refl, ap, subst, sym, arith}
 use Rattle.std.proofs.lemmas.Bool.{cases_lt, cases_order}
 use Rattle.std.proofs.Math.Nat.{mul-le-mul_left}
 use Rattle.regions.specs.Blocks.{InSectionBlock, InStationBlock}
-use Rattle.regions.specs.Regions.{tall, InStation, InBand, InSection, part_of}
-use Rattle.regions.proofs.Parting.{Somewhere, somewhere}
+use Rattle.regions.specs.Regions.{tall, InStation, InSection}
+use Rattle.regions.proofs.Parting.{somewhere}
 use Rattle.regions.proofs.Parting.Somewhere.{InOwn, InLeft, InRight}
 
 -- a later window begins where an earlier one has ended

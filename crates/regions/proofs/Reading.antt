@@ -1,35 +1,26 @@
 -- Where the points of blocks lie, and what the points of regions read, over a layout.
-use Rattle.std.proofs.Common.{◌≡◌, ℕ, zero, suc, ◌+◌, ◌-◌, ◌*◌, ◌/◌, ◌<◌, ◌≤◌, ◌⊎◌, inl, inr, not, Bool, true, false, Option, Some, None, List, length, get_or, refl, ap, subst, sym, ◌∙◌, add-one, arith}
-use Rattle.std.specs.Prelude.{if◌then◌else◌}
+use Rattle.std.proofs.Common.{◌≡◌, ℕ, ◌+◌, ◌-◌, ◌*◌, ◌<◌, ◌≤◌, ◌⊎◌, inl, inr, not, true, false, length, refl, ap, subst, sym, ◌∙◌, arith}
 use Rattle.std.proofs.lemmas.Bool.{cases_lt}
-use Rattle.std.proofs.lemmas.List.Elements.{All-from_recursion}
-use Rattle.case_model.specs.declared.meshes.End.{End}
 use Rattle.case_model.specs.declared.meshes.Mesh.{Mesh}
-use Rattle.case_model.specs.Mesh.{reaches, ends_of, end_node, next_to, IsMesh}
+use Rattle.case_model.specs.Mesh.{reaches, IsMesh}
 use Rattle.regions.specs.declared.shapes.Layout.{Layout}
 use Rattle.regions.specs.declared.shapes.Shape.{Shape}
-use Rattle.regions.specs.declared.shapes.Shape.TheVariants.{OfNode, OfSeam, OfSection}
 use Rattle.regions.specs.declared.shapes.Spot.{Spot}
-use Rattle.regions.specs.declared.shapes.Spot.TheVariants.{AtNode, Inside}
-use Rattle.regions.specs.Blocks.{InSectionBlock, InStationBlock, section_point, station_point, section_index, station_index, block_point_of, side_spot, block_spot, block_step, AreWritten}
-use Rattle.regions.specs.Cuts.{sections, section_reaches, cut}
+use Rattle.regions.specs.declared.shapes.Spot.TheVariants.{Inside}
+use Rattle.regions.specs.Blocks.{InSectionBlock, section_point, station_point, block_point_of, side_spot, block_spot, block_step, AreWritten}
+use Rattle.regions.specs.Cuts.{section_reaches, cut}
 use Rattle.regions.specs.Layouts.{sections_at, section_number, station_number, section_shape, layout_of}
-use Rattle.regions.specs.Needs.{needs_of, Reads, Source, AreEnough}
-use Rattle.regions.specs.Needs.Source.{AtStart, InOwn, InBlock}
-use Rattle.regions.specs.Regions.{tall, InStation, InSection, InStationBy, InStations, InShape, InRegion, HasSpot}
-use Rattle.regions.specs.Sides.{no_end, end_at, shape_at, is_section_shape, is_section, sides_in, section_at_end, side_in, sides_of, side_of, back_of, AreMutual, IsWired}
+use Rattle.regions.specs.Regions.{InStation, InSection, InStationBy, InShape, InRegion}
+use Rattle.regions.specs.Sides.{shape_at, is_section, sides_of, side_of, back_of, AreMutual, IsWired}
 use Rattle.regions.proofs.Blocking.{sections-in-order, stations-in-order}
-use Rattle.regions.proofs.Cutting.{sections-some, cut-next, cut-more, cut-last, reaches-long}
+use Rattle.regions.proofs.Cutting.{reaches-long}
 use Rattle.regions.proofs.Joining.{over-mutual, side-from, sides-from, kind-from}
 use Rattle.regions.proofs.Owning.{StationShape, station-shape, station-in}
-use Rattle.regions.proofs.Placing.{station-block, SectionPoint, section-block, section-block_right, StationSource, station-reads, SectionSource, section-reads}
+use Rattle.regions.proofs.Placing.{station-block, section-block, section-block_right}
 use Rattle.regions.proofs.Placing.SectionPoint.{PointAtStart, PointIn}
-use Rattle.regions.proofs.Placing.StationSource.{FromStart, FromStation, FromSection}
-use Rattle.regions.proofs.Placing.SectionSource.{FromRow0, FromRegion, FromLeft, FromRight}
-use Rattle.regions.proofs.Standing.{station-first, station-last}
-use Rattle.regions.proofs.Strands.{IsOver, shape-node, shape-seam, shape-section, Strand, strand, section-inside, node-inside}
+use Rattle.regions.proofs.Strands.{shape-node, shape-seam, shape-section, strand, section-inside}
 use Rattle.regions.proofs.Strands.Strand.{IsNode, IsSeam, IsSection}
-use Rattle.regions.proofs.Whole.{IsFitted, fitted, cut-end}
+use Rattle.regions.proofs.Whole.{IsFitted, fitted}
 
 -- ---- what stands at a section
 

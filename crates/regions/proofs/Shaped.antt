@@ -1,9 +1,8 @@
 -- Shapes from their parts.
-use Rattle.std.proofs.Common.{◌≡◌, ℕ, ◌+◌, List, get_or, ap, sym, ◌∙◌}
+use Rattle.std.proofs.Common.{◌≡◌, ℕ, ◌+◌, List, get_or, ap, ◌∙◌}
 use Rattle.case_model.specs.declared.meshes.Mesh.{Mesh}
 use Rattle.case_model.specs.declared.meshes.PipeMesh.{PipeMesh}
 use Rattle.case_model.specs.Mesh.{no_pipe, reaches}
-use Rattle.regions.specs.declared.shapes.Shape.{Shape}
 use Rattle.regions.specs.declared.shapes.Shape.TheVariants.{OfSeam, OfSection}
 use Rattle.regions.specs.Cuts.{section_reaches, cut}
 use Rattle.regions.specs.Layouts.{section_number, station_number, seam_shape, section_shape}

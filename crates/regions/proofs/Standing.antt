@@ -1,8 +1,8 @@
 -- The numbers of stations.
-use Rattle.std.proofs.Common.{◌≡◌, ◌≢◌, ℕ, ◌+◌, ◌-◌, ◌<◌, ◌≤◌, true, false, length, refl, arith, eq-eqb}
+use Rattle.std.proofs.Common.{◌≡◌, ◌≢◌, ℕ, ◌+◌, ◌-◌, ◌≤◌, true, false, length, refl, arith, eq-eqb}
 use Rattle.std.proofs.lemmas.Bool.{ne_eqb}
 use Rattle.case_model.specs.declared.meshes.Mesh.{Mesh}
-use Rattle.case_model.specs.Mesh.{reaches, end_node}
+use Rattle.case_model.specs.Mesh.{end_node}
 use Rattle.regions.specs.Layouts.{sections_at, seams_before, seam_number, station_number}
 
 pub station-first : (mesh : Mesh) (w p c : ℕ) → c ≡ 0 → station_number mesh w p c ≡ end_node mesh p false

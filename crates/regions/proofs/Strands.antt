@@ -1,19 +1,18 @@
 -- The strands of a layout by their numbers.
-use Rattle.std.proofs.Common.{◌≡◌, ℕ, zero, suc, ◌+◌, ◌-◌, ◌<◌, ◌≤◌, ◌⊎◌, inl, inr, List, [], ◌∷◌, ◌++◌, length, map, get_or, refl, ap, subst, sym, ◌∙◌, add-one, arith, append_assoc}
+use Rattle.std.proofs.Common.{◌≡◌, ℕ, ◌+◌, ◌-◌, ◌<◌, inl, inr, List, ◌++◌, length, map, get_or, refl, ap, sym, ◌∙◌, arith, append_assoc}
 use Rattle.std.specs.List.{flat_map, range_with_len}
 use Rattle.std.proofs.lemmas.Bool.{cases_lt}
 use Rattle.std.proofs.lemmas.List.{get_or-append-add, get_or_append_left, length-append}
 use Rattle.std.proofs.lemmas.List.FromFn.{get_or-map-range_with_len, length-map-range_with_len}
 use Rattle.case_model.specs.declared.meshes.Mesh.{Mesh}
-use Rattle.case_model.specs.Mesh.{reaches}
 use Rattle.regions.specs.declared.shapes.Layout.{Layout}
 use Rattle.regions.specs.declared.shapes.Shape.{Shape}
-use Rattle.regions.specs.declared.shapes.Shape.TheVariants.{OfNode, OfSeam, OfSection}
+use Rattle.regions.specs.declared.shapes.Shape.TheVariants.{OfNode}
 use Rattle.regions.specs.Cuts.{window_of, windows_of}
 use Rattle.regions.specs.Layouts.{sections_at, seams_before, sections_before, section_number, seam_shape, section_shape, seams_of, sections_of, shapes_of, layout_of}
 use Rattle.regions.specs.Sides.{shape_at}
 use Rattle.regions.proofs.Counting.{seams-next, seams-none, sections-next, sections-none}
-use Rattle.regions.proofs.Pieces.{Counts, Located, length_pieces, at_piece, before_less, locate}
+use Rattle.regions.proofs.Pieces.{Counts, length_pieces, at_piece, before_less, locate}
 
 -- the layout has the strands of the mesh, over windows of w steps
 pub record IsOver (layout : Layout) (mesh : Mesh) (w : ℕ) : Type 0 where

@@ -1,22 +1,20 @@
 -- The layout of a mesh within its limits: its windows, its sections, its numbers.
-use Rattle.std.proofs.Common.{◌≡◌, ℕ, zero, suc, ◌+◌, ◌-◌, ◌*◌, ◌/◌, ◌<◌, ◌≤◌, ◌⊎◌, inl, inr, List, length, take, get_or, refl, ap, subst, sym, ◌∙◌, add-one, arith}
+use Rattle.std.proofs.Common.{◌≡◌, ℕ, ◌+◌, ◌-◌, ◌<◌, ◌≤◌, length, take, ap, subst, sym, ◌∙◌, arith}
 use Rattle.std.specs.List.{sum_by}
 use Rattle.std.proofs.lemmas.List.{take_more, take_all}
 use Rattle.std.proofs.lemmas.List.Sums.{sum_by_push, sum_by-take-le}
 use Rattle.std.proofs.lemmas.Nat.{div_below}
-use Rattle.std.proofs.lemmas.Bool.{cases_lt}
 use Rattle.case_model.specs.declared.meshes.Mesh.{Mesh}
 use Rattle.case_model.specs.declared.meshes.PipeMesh.{PipeMesh}
 use Rattle.case_model.specs.Mesh.{no_pipe, reaches, IsMesh}
 use Rattle.regions.specs.declared.shapes.Layout.{Layout}
-use Rattle.regions.specs.declared.shapes.Shape.{Shape}
-use Rattle.regions.specs.Cuts.{window_of, windows_of, sections, section_reaches, cut, IsLimited, IsWindow}
-use Rattle.regions.specs.Layouts.{sections_at, section_number, section_shape, layout_of}
+use Rattle.regions.specs.Cuts.{window_of, windows_of, sections, section_reaches, cut, IsLimited}
+use Rattle.regions.specs.Layouts.{layout_of}
 use Rattle.regions.specs.Regions.{IsLong, IsWhole}
 use Rattle.regions.specs.Sides.{shape_at}
 use Rattle.regions.proofs.Counting.{few as all-few, few-seams}
 use Rattle.regions.proofs.Cutting.{cut-next, cut-more, cut-last, reaches-long}
-use Rattle.regions.proofs.Strands.{IsOver, layout-over, layout-windows, length-shapes, shape-node, shape-seam, shape-section, Strand, strand}
+use Rattle.regions.proofs.Strands.{IsOver, layout-over, layout-windows, length-shapes, shape-node, shape-seam, shape-section, strand}
 use Rattle.regions.proofs.Strands.Strand.{IsNode, IsSeam, IsSection}
 use Rattle.regions.proofs.Windowed.{window-is, window-some}
 

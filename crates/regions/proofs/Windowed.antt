@@ -1,10 +1,10 @@
 -- The window is the least of the wish and of all counts of reaches.
-use Rattle.std.proofs.Common.{◌≡◌, ℕ, zero, suc, ◌+◌, ◌<◌, ◌≤◌, ◌⊎◌, inl, inr, List, [], ◌∷◌, length, get_or, refl, sym, ◌∙◌, arith}
+use Rattle.std.proofs.Common.{◌≡◌, ℕ, zero, suc, ◌+◌, ◌<◌, ◌≤◌, ◌⊎◌, inl, inr, List, [], ◌∷◌, length, get_or, refl, ◌∙◌, arith}
 use Rattle.std.specs.Prelude.{min}
 use Rattle.std.proofs.lemmas.Bool.{cases_lt}
 use Rattle.case_model.specs.declared.meshes.Mesh.{Mesh}
 use Rattle.case_model.specs.declared.meshes.PipeMesh.{PipeMesh}
-use Rattle.case_model.specs.Mesh.{no_pipe, reaches, IsMesh}
+use Rattle.case_model.specs.Mesh.{no_pipe, IsMesh}
 use Rattle.regions.specs.Cuts.{least_reaches, window_of, IsWindow}
 
 -- the window of these pipes alone

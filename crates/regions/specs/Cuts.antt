@@ -1,8 +1,8 @@
 -- How pipes are cut into sections, and time into windows.
-use Rattle.std.specs.Prelude.{◌≡◌, ℕ, zero, suc, ◌+◌, ◌-◌, ◌/◌, ◌%◌, ◌<◌, ◌≤◌, ◌⊎◌, min, max, nat_lt, if◌then◌else◌, List, length, slice_index_or, fold}
+use Rattle.std.specs.Prelude.{◌≡◌, ℕ, zero, suc, ◌+◌, ◌-◌, ◌/◌, ◌%◌, ◌<◌, ◌≤◌, ◌⊎◌, min, max, nat_lt, if◌then◌else◌, List, length, fold}
 use Rattle.case_model.specs.declared.meshes.Mesh.{Mesh}
 use Rattle.case_model.specs.declared.meshes.PipeMesh.{PipeMesh}
-use Rattle.case_model.specs.Mesh.{no_pipe, reaches, ends_of, places_before}
+use Rattle.case_model.specs.Mesh.{reaches, ends_of, places_before}
 
 -- the least of the wish and of the counts of reaches of these pipes
 abbrev pub least_reaches : ℕ → List PipeMesh → ℕ

@@ -1,6 +1,5 @@
-use Rattle.std.proofs.Common.{◌≡◌, ◌+◌, ◌≤◌, sym, ◌∙◌, arith}
-use Rattle.std.proofs.lemmas.Grind.{common_steps}
-use Rattle.regions.specs.Cuts.{sections, cut}
+use Rattle.std.proofs.Common.{◌+◌, arith}
+use Rattle.regions.specs.Cuts.{sections}
 use Rattle.regions.proofs.Cutting.{cut-next, cut-more, cut-last}
 use Rattle.regions.proofs.cuts.next_cut.Goals as goal
 

@@ -1,6 +1,6 @@
-use Rattle.std.proofs.Common.{◌≡◌, ◌+◌, arith, ap}
+use Rattle.std.proofs.Common.{arith}
 use Rattle.std.proofs.lemmas.Grind.{common_steps}
-use Rattle.regions.specs.Layouts.{section_number, seam_shape}
+use Rattle.regions.specs.Layouts.{seam_shape}
 use Rattle.regions.proofs.Listing.{items_more}
 use Rattle.regions.proofs.Shaped.{seam-from}
 use Rattle.regions.proofs.layouts.add_pipe_seams.Goals as goal

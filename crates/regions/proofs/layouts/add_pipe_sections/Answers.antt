@@ -1,6 +1,6 @@
-use Rattle.std.proofs.Common.{◌≡◌, ◌+◌, arith, ap}
+use Rattle.std.proofs.Common.{arith}
 use Rattle.std.proofs.lemmas.Grind.{common_steps}
-use Rattle.regions.specs.Layouts.{section_number, section_shape}
+use Rattle.regions.specs.Layouts.{section_shape}
 use Rattle.regions.proofs.Listing.{items_more}
 use Rattle.regions.proofs.Shaped.{section-from}
 use Rattle.regions.proofs.layouts.add_pipe_sections.Goals as goal

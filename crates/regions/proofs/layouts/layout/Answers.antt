@@ -1,4 +1,4 @@
-use Rattle.std.proofs.Common.{rules, arith, subst, sym}
+use Rattle.std.proofs.Common.{arith, subst, sym}
 use Rattle.std.proofs.lemmas.Grind.{common_steps}
 use Rattle.regions.specs.Layouts.{layout_of, shapes_of}
 use Rattle.regions.specs.Regions.{IsWhole}

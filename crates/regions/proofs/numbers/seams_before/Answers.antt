@@ -2,7 +2,6 @@ use Rattle.std.proofs.Common.{◌+◌, sym, arith}
 use Rattle.std.proofs.lemmas.Grind.{common_steps}
 use Rattle.regions.proofs.Counting.{seams-next, seams-none, few-seams}
 use Rattle.regions.proofs.Cutting.{sections-some}
-use Rattle.regions.specs.Layouts.{sections_at}
 use Rattle.regions.proofs.numbers.seams_before.Goals as goal
 
 pub loop-earlier-init : goal.loop-earlier-init

@@ -1,7 +1,6 @@
 use Rattle.std.proofs.Common.{◌+◌, sym, arith}
 use Rattle.std.proofs.lemmas.Grind.{common_steps}
 use Rattle.regions.proofs.Counting.{sections-next, sections-none, few}
-use Rattle.regions.specs.Layouts.{sections_at}
 use Rattle.regions.proofs.numbers.sections_before.Goals as goal
 
 pub loop-earlier-init : goal.loop-earlier-init

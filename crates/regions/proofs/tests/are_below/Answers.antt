@@ -1,5 +1,4 @@
 use Rattle.std.proofs.Common.{arith}
-use Rattle.regions.specs.Sides.{no_end}
 use Rattle.regions.proofs.Checked.{all-below}
 use Rattle.regions.proofs.tests.are_below.Goals as goal
 

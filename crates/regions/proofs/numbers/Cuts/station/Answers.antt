@@ -1,5 +1,4 @@
-use Rattle.std.proofs.Common.{◌≡◌, ◌+◌, ap, sym, ◌∙◌, arith, eq-eqb}
-use Rattle.std.proofs.lemmas.Bool.{ne_eqb}
+use Rattle.std.proofs.Common.{sym, ◌∙◌, arith}
 use Rattle.regions.proofs.Standing.{station-first, station-last, station-seam}
 use Rattle.regions.proofs.numbers.Cuts.station.Goals as goal
 
