@@ -1,6 +1,6 @@
 -- Place numbers.
 use Rattle.std.proofs.Common.{◌≡◌, ℕ, ◌+◌, ◌*◌, ◌/◌, ◌<◌, ◌≤◌, length, take, sum_by, arith, ap}
-use Rattle.case_model.specs.Mesh.{IsNumbered, base_of, reaches, places_before, no_pipe}
+use Rattle.case_model.specs.Mesh.{IsNumbered, reaches, places_before, no_pipe}
 use Rattle.std.proofs.Math.Nat.{div-mul-le_self}
 use Rattle.std.proofs.lemmas.Nat.{mul-le}
 use Rattle.std.proofs.lemmas.List.{take_all}
