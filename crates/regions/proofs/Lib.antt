@@ -1,0 +1,17 @@
+mod Blocking
+mod Counting
+mod Cutting
+mod Joining
+mod Listing
+mod Needing
+mod Owning
+mod Parting
+mod Pieces
+mod Placing
+mod Reading
+mod Shaped
+mod Standing
+mod Strands
+mod Whole
+mod Windowed
+mod Wiring

@@ -1,0 +1,15 @@
+use Rattle.regions.proofs.Cutting.{cut-last, reaches-long, reaches-even}
+use Rattle.regions.proofs.Windowed.{window-is}
+use Rattle.regions.proofs.laws.cuts_follow_the_window.Goals as goal
+
+pub returns-clause-window : goal.returns-clause-window
+returns-clause-window c = window-is
+
+pub returns-clause-filled : goal.returns-clause-filled
+returns-clause-filled c = cut-last
+
+pub returns-clause-each : goal.returns-clause-each
+returns-clause-each c = reaches-long
+
+pub returns-clause-even : goal.returns-clause-even
+returns-clause-even c = reaches-even

@@ -1,0 +1,7 @@
+pub mod Blocks
+pub mod Cuts
+pub mod Layouts
+pub mod Needs
+pub mod Numbers
+pub mod Regions
+pub mod Sides

@@ -1,0 +1,128 @@
+ghost use Rattle.std.specs.Prelude.{◌≡◌, ◌<◌, ◌≤◌, ◌++◌, length, map, IfOk, OnOk};
+ghost use Rattle.std.specs.List.{flat_map, range_with_len};
+ghost use Rattle.case_model.specs.Mesh.{IsMesh};
+ghost use Rattle.regions.specs.declared.shapes.Shape.TheVariants.{OfNode};
+ghost use Rattle.regions.specs.Cuts.{IsLimited};
+ghost use Rattle.regions.specs.Regions.{IsWhole};
+ghost use Rattle.regions.specs.Layouts.{seams_of, sections_of, layout_of};
+
+use crate::cuts::{next_cut, section_reaches, window, windows};
+use crate::numbers::cuts_of;
+use crate::{Layout, Shape};
+use case_model::{Case, List, Mesh};
+use std::alloc::{AllocError, Global};
+
+/// The strands of a mesh, and its windows of at most `wish` steps that hold all steps of the case.
+#[tactic(auto, unfolding(crate::specs::Layouts::layout_of, crate::specs::Layouts::shapes_of))]
+pub fn layout(alloc: Global, case: &Case, mesh: &Mesh, wish: u64) -> Result<Layout, AllocError>
+    requires mesh { IsMesh mesh.now }
+    requires limits { IsLimited mesh.now }
+    requires some_steps { 1 ≤ case.now.steps }
+    requires few_steps { case.now.steps ≤ 100_000_000 }
+    requires some { 1 ≤ wish }
+    requires few { wish ≤ 64 }
+    ensures layout { IfOk result (λ layout. layout ≡ layout_of case.now.steps mesh.now wish) }
+    ensures whole { IfOk result (λ layout. IsWhole layout) }
+{
+    let window = window(mesh, wish);
+    let windows = windows(window, case.steps);
+    let mut shapes = nodes(alloc, mesh)?;
+    add_seams(&mut shapes, mesh, window)?;
+    add_sections(&mut shapes, mesh, window)?;
+    Ok(Layout {
+        window,
+        windows,
+        shapes: List::over(shapes),
+    })
+}
+
+fn nodes(alloc: Global, mesh: &Mesh) -> Result<Vec<Shape>, AllocError>
+    requires { IsLimited mesh.now }
+    ensures { IfOk result (λ shapes. shapes.items ≡ map OfNode (range_with_len 0 (length mesh.now.ends))) }
+{
+    let mut shapes = Vec::new(alloc);
+    for node in 0..mesh.ends.as_slice().len() as u32 {
+        shapes.push(Shape::OfNode { node })?;
+    }
+    Ok(shapes)
+}
+
+fn add_seams(shapes: &mut Vec<Shape>, mesh: &Mesh, window: u64) -> Result<(), AllocError>
+    requires mesh { IsMesh mesh.now }
+    requires limits { IsLimited mesh.now }
+    ensures { OnOk result (shapes.new.items ≡ shapes.old.items ++ flat_map (seams_of mesh.now window) (range_with_len 0 (length mesh.now.pipes))) }
+{
+    for pipe in 0..mesh.pipes.as_slice().len() as u32 {
+        add_pipe_seams(shapes, mesh, window, pipe)?;
+    }
+    Ok(())
+}
+
+fn add_pipe_seams(
+    shapes: &mut Vec<Shape>,
+    mesh: &Mesh,
+    window: u64,
+    pipe: u32,
+) -> Result<(), AllocError>
+    requires mesh { IsMesh mesh.now }
+    requires limits { IsLimited mesh.now }
+    requires inside { pipe < length mesh.now.pipes }
+    ensures { OnOk result (shapes.new.items ≡ shapes.old.items ++ seams_of mesh.now window pipe) }
+{
+    let reaches = mesh.pipes.as_slice()[pipe as usize].reaches;
+    let cuts = cuts_of(mesh, window, pipe);
+    let mut place = 0;
+    for index in 0..cuts.count - 1 {
+        place = next_cut(window, reaches, index, place);
+        let left = cuts.section(index);
+        let right = cuts.section(index + 1);
+        shapes.push(Shape::OfSeam {
+            pipe,
+            place,
+            left,
+            right,
+        })?;
+    }
+    Ok(())
+}
+
+fn add_sections(shapes: &mut Vec<Shape>, mesh: &Mesh, window: u64) -> Result<(), AllocError>
+    requires mesh { IsMesh mesh.now }
+    requires limits { IsLimited mesh.now }
+    ensures { OnOk result (shapes.new.items ≡ shapes.old.items ++ flat_map (sections_of mesh.now window) (range_with_len 0 (length mesh.now.pipes))) }
+{
+    for pipe in 0..mesh.pipes.as_slice().len() as u32 {
+        add_pipe_sections(shapes, mesh, window, pipe)?;
+    }
+    Ok(())
+}
+
+fn add_pipe_sections(
+    shapes: &mut Vec<Shape>,
+    mesh: &Mesh,
+    window: u64,
+    pipe: u32,
+) -> Result<(), AllocError>
+    requires mesh { IsMesh mesh.now }
+    requires limits { IsLimited mesh.now }
+    requires inside { pipe < length mesh.now.pipes }
+    ensures { OnOk result (shapes.new.items ≡ shapes.old.items ++ sections_of mesh.now window pipe) }
+{
+    let all = mesh.pipes.as_slice()[pipe as usize].reaches;
+    let cuts = cuts_of(mesh, window, pipe);
+    let mut place = 0;
+    for index in 0..cuts.count {
+        let reaches = section_reaches(window, all, index);
+        let left = cuts.station(index);
+        let right = cuts.station(index + 1);
+        shapes.push(Shape::OfSection {
+            pipe,
+            place,
+            reaches,
+            left,
+            right,
+        })?;
+        place = next_cut(window, all, index, place);
+    }
+    Ok(())
+}

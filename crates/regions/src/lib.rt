@@ -1,0 +1,23 @@
+//! How a mesh is cut into strands (nodes, seams, sections), and space and time into their regions.
+#![tactic(auto)]
+
+mod blocks;
+mod cuts;
+mod joints;
+mod laws;
+mod layouts;
+mod numbers;
+mod parts;
+mod regions;
+mod shapes;
+mod sides;
+
+pub use laws::{
+    blocks_are_in_order, cuts_follow_the_window, division_is_wired, layouts_are_whole, needs_are_enough,
+    regions_are_a_partition, sides_are_mutual,
+};
+pub use layouts::layout;
+pub use shapes::{Layout, Shape, Spot};
+
+#[cfg(test)]
+mod tests;
