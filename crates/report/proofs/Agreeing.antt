@@ -1,5 +1,5 @@
 -- Reports over the same numbers are the same.
-use Rattle.std.proofs.Common.{◌≡◌, ◌∙◌, ℕ, zero, suc, ◌+◌, ◌*◌, ◌/◌, ◌%◌, ◌<◌, ◌≤◌, List, [], ◌∷◌, ◌++◌, length, map, Option, refl, ap, arith}
+use Rattle.std.proofs.Common.{◌≡◌, ◌∙◌, ℕ, zero, suc, ◌+◌, ◌*◌, ◌/◌, ◌%◌, ◌<◌, ◌≤◌, List, [], ◌∷◌, length, map, Option, refl, ap, arith}
 use Rattle.std.proofs.Math.Nat.{mul-mod_left}
 use Rattle.std.specs.List.{All, flat_map, range_with_len}
 use Rattle.std.proofs.lemmas.List.Elements.{All-head, All-tail, All-append}
@@ -13,7 +13,7 @@ use Rattle.envelope.specs.Rows.{IsOn}
 use Rattle.envelope.specs.declared.extremes.Extreme.{Extreme}
 use Rattle.report.specs.Peaks.{highest, lowest}
 use Rattle.report.specs.Places.{IsOnPipe, node_places, pipe_places, places}
-use Rattle.report.specs.Report.{cavities_text, cavity_line, envelope_line, envelopes_text, peak_line, peak_text, probe_line, probe_lines, report_text, sample_line, sampled_steps, samples_text}
+use Rattle.report.specs.Report.{cavities_text, cavity_line, envelope_line, envelopes_text, peak_line, peak_text, probe_line, probe_lines, report_text, sample_line, samples_text}
 use Rattle.report.proofs.Numbers.{on_pipe, step-within}
 use Rattle.report.proofs.Ordered.{all_of_range, all-pipe_places}
 use Rattle.report.proofs.PeakLaws.{highest-alike, highest-is, lowest-alike, lowest-is}

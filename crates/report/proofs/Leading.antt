@@ -1,6 +1,6 @@
 -- The better of places, one after the other, is the first that no other passes.
-use Rattle.std.proofs.Common.{◌≡◌, ◌∙◌, ℕ, ◌<◌, ◌≤◌, ◌+◌, ◌⊎◌, inl, inr, Bool, true, false, not, ◌||◌, ◌&&◌, cond, int_lt, nat_lt, ℤ, ◌<ℤ◌, ◌≤ℤ◌, List, [], ◌∷◌, ◌++◌, length, get_or, map, refl, ap, sym, subst, append_assoc, append-nil, arith}
-use Rattle.std.specs.List.{All, filter, fold, list_any, range_with_len}
+use Rattle.std.proofs.Common.{◌≡◌, ◌∙◌, ℕ, ◌<◌, ◌≤◌, ◌⊎◌, inl, inr, Bool, true, false, not, ◌||◌, ◌&&◌, cond, int_lt, nat_lt, ℤ, ◌<ℤ◌, List, [], ◌∷◌, ◌++◌, get_or, refl, ap, sym, subst, append_assoc, append-nil, arith}
+use Rattle.std.specs.List.{All, filter, fold, list_any}
 use Rattle.std.proofs.lemmas.Bool.Decides.{nat_tests}
 use Rattle.std.proofs.lemmas.Int.{ints}
 use Rattle.std.proofs.lemmas.List.Elements.{All-nil, All-cons, All-head, All-tail, All-append, All-push, All-weaker, filter-append}
@@ -8,7 +8,7 @@ use Rattle.std.proofs.lemmas.List.Folds.{list_any-append, list_any_none}
 use Rattle.case_model.specs.declared.cases.ProbeAt.{ProbeAt}
 use Rattle.case_model.specs.declared.cases.ProbeAt.TheVariants.{OnPipe}
 use Rattle.envelope.specs.declared.extremes.Extreme.{Extreme}
-use Rattle.report.specs.Bounds.{better, passing}
+use Rattle.report.specs.Bounds.{passing}
 use Rattle.report.specs.Peaks.{is_above, is_below, is_unpassed, first_unpassed}
 use Rattle.report.specs.declared.peaks.Bound.{Bound}
 use Rattle.report.specs.declared.peaks.Bound.TheVariants.{Greatest, Least}

@@ -25,3 +25,11 @@ four_runs word next first second third fourth =
     let inside : ((((word ++ spaced first) ++ spaced second) ++ 32 ∷ next) ++ spaced third) ++ spaced fourth ≡ word ++ spaced ((first ++ second) ++ (next ∷ third ++ fourth)) =
     rw (spaced_both (first ++ second) (next ∷ third ++ fourth), spaced_both first second, spaced_both third fourth) (simp append_assoc) in
     ap (λ l. l ++ 10 ∷ []) (inside ∙ sym (joined_spaced word ((first ++ second) ++ (next ∷ third ++ fourth))))
+
+-- a line of a word and four runs of fields
+pub runs_of_four : (word : List ℕ) (first second third fourth : List (List ℕ))
+    → ((((word ++ spaced first) ++ spaced second) ++ spaced third) ++ spaced fourth) ++ 10 ∷ [] ≡ line_of (word ∷ first ++ (second ++ (third ++ fourth)))
+runs_of_four word first second third fourth =
+    let inside : (((word ++ spaced first) ++ spaced second) ++ spaced third) ++ spaced fourth ≡ word ++ spaced (first ++ (second ++ (third ++ fourth))) =
+    rw (spaced_both first (second ++ (third ++ fourth)), spaced_both second (third ++ fourth), spaced_both third fourth) (simp append_assoc) in
+    ap (λ l. l ++ 10 ∷ []) (inside ∙ sym (joined_spaced word (first ++ (second ++ (third ++ fourth)))))

@@ -1,5 +1,6 @@
 pub mod Bounds
 pub mod Lines
+pub mod MeshText
 pub mod Messages
 pub mod Parts
 pub mod Peaks

@@ -1,5 +1,5 @@
 -- What a report is written from: a case within its limits, its mesh, and a fold over all places of the mesh.
-use Rattle.std.specs.Prelude.{◌≡◌, ℕ, ◌<◌, ◌≤◌, List, [], ◌∷◌, length, All}
+use Rattle.std.specs.Prelude.{◌≡◌, ◌<◌, ◌≤◌, [], ◌∷◌, length, All}
 use Rattle.case_model.specs.Mesh.{IsNumbered}
 use Rattle.case_model.specs.declared.cases.Case.{Case}
 use Rattle.case_model.specs.declared.cases.ProbeAt.{ProbeAt}

@@ -1,7 +1,8 @@
 //! The fields of a line, each behind a blank.
-ghost use Rattle.std.specs.Prelude.{◌≡◌, ◌≤◌, ◌<◌, ◌+◌, ◌++◌, ◌∷◌, length, unsigned_abs};
+ghost use Rattle.std.specs.Prelude.{◌≡◌, ◌≤◌, ◌<◌, ◌+◌, ◌++◌, ◌∷◌, [], codes, length, unsigned_abs};
 ghost use Rattle.fixed_num.specs.Written.{written};
 ghost use Rattle.report.specs.Lines.{count_text, flow_text, head_text, label, spaced, volume_text};
+ghost use Rattle.report.specs.MeshText.{friction_text, impedance_text, speed_text};
 ghost use Rattle.report.specs.Places.{IsNamed};
 
 use case_model::{Case, ProbeAt};
@@ -64,6 +65,40 @@ pub(crate) fn add_volume(line: &mut Line, volume: i64)
     ensures few { length line.new ≤ length line.old + 23 }
 {
     add_number(line, volume as i128, 9);
+}
+
+// Adds its word and a wave speed, in 1e-3 m/s.
+pub(crate) fn add_speed(line: &mut Line, speed: i128)
+    requires room { length line.old ≤ 200 }
+    requires size { unsigned_abs speed < 100_000_000_000_000_000_000 }
+    ensures text { line.new ≡ line.old ++ spaced (codes "speed" ∷ speed_text speed ∷ []) }
+    ensures few { length line.new ≤ length line.old + 29 }
+{
+    add_field(line, b"speed");
+    add_number(line, speed, 3);
+}
+
+// Adds its word and an impedance, in 1e-6 s/m2.
+pub(crate) fn add_impedance(line: &mut Line, b: i64)
+    requires { length line.old ≤ 200 }
+    ensures text { line.new ≡ line.old ++ spaced (codes "b" ∷ impedance_text b ∷ []) }
+    ensures few { length line.new ≤ length line.old + 25 }
+{
+    add_field(line, b"b");
+    add_number(line, b as i128, 6);
+}
+
+// Adds its word and the friction of a reach, in 1e-12 s2/m5.
+pub(crate) fn add_friction(line: &mut Line, r: i128)
+    requires room { length line.old ≤ 200 }
+    requires size { unsigned_abs r ≤ 100_000_000_000_000_000_000 }
+    ensures text { line.new ≡ line.old ++ spaced (codes "r" ∷ friction_text r ∷ []) }
+    ensures few { length line.new ≤ length line.old + 51 }
+{
+    add_field(line, b"r");
+    let mut digits = [0; 48];
+    let count = write_decimal(r, 12, &mut digits);
+    add_field(line, &digits[..count]);
 }
 
 // Adds the label of a place, a blank before each of its fields.

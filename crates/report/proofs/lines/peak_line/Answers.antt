@@ -1,4 +1,4 @@
-use Rattle.std.proofs.Common.{◌∷◌, [], codes, arith, rules}
+use Rattle.std.proofs.Common.{◌∷◌, [], codes, arith}
 use Rattle.std.proofs.lemmas.Grind.{common_steps}
 use Rattle.report.specs.Lines.{count_text, head_text, label}
 use Rattle.report.specs.Report.{peak_line}

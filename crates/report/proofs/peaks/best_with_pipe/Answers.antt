@@ -1,4 +1,4 @@
-use Rattle.std.proofs.Common.{◌≡◌, ◌∙◌, ap, sym}
+use Rattle.std.proofs.Common.{◌∙◌, ap, sym}
 use Rattle.case_model.specs.declared.cases.ProbeAt.TheVariants.{OnPipe}
 use Rattle.report.specs.Bounds.{better}
 use Rattle.report.specs.Reportable.{extremes_of}

@@ -1,4 +1,3 @@
-use Rattle.std.proofs.Common.{arith, rules}
 use Rattle.envelope.specs.CellLaws.{within-first}
 use Rattle.report.proofs.places.extreme_of.Goals as goal
 

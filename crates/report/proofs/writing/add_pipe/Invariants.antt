@@ -3,7 +3,6 @@ use Rattle.std.specs.List.{flat_map, range_with_len}
 use Rattle.surge_io.specs.Pages.{Adds}
 use Rattle.report.specs.Parts.{pipe_line}
 use Rattle.report.specs.Reportable.{extremes_of}
-use Rattle.case_model.specs.Mesh.{reaches}
 use Rattle.report.proofs.writing.add_pipe.Given as goal
 
 abbrev pub invariant-loop-i : goal.invariant-loop-i

@@ -1,6 +1,6 @@
-use Rattle.std.proofs.Common.{ap, rules, arith, ◌≡◌, ◌+◌, ◌*◌, ◌/◌, length, subst, ℕ, List}
+use Rattle.std.proofs.Common.{ap, rules, arith, ◌≡◌, length, subst, ℕ}
 use Rattle.std.specs.List.{flat_map, range_with_len}
-use Rattle.surge_io.specs.Pages.{Adds, AddsFront}
+use Rattle.surge_io.specs.Pages.{Adds}
 use Rattle.report.specs.Parts.{lines_of_pipe}
 use Rattle.report.specs.Reportable.{extremes_of}
 use Rattle.report.proofs.Pieces.{adds_next, front_within}

@@ -1,4 +1,4 @@
-use Rattle.std.proofs.Common.{rules, sym, arith, ◌≡◌, ◌+◌, ◌*◌, ◌/◌, length, subst, ℕ, List}
+use Rattle.std.proofs.Common.{rules, sym, arith, ◌≡◌, ◌+◌, ◌*◌, ◌/◌, subst, ℕ, List}
 use Rattle.std.proofs.lemmas.List.Folds.{flat_map-map}
 use Rattle.std.specs.List.{flat_map, range_with_len}
 use Rattle.surge_io.specs.Pages.{Adds, AddsFront}

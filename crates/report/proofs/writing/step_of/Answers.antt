@@ -1,4 +1,4 @@
-use Rattle.std.proofs.Common.{arith, rules}
+use Rattle.std.proofs.Common.{arith}
 use Rattle.report.proofs.Numbers.{step-within}
 use Rattle.report.proofs.writing.step_of.Goals as goal
 

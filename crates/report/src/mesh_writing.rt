@@ -1,0 +1,70 @@
+//! The text of a mesh, line by line through a page.
+ghost use Rattle.std.specs.Prelude.{◌≡◌, ◌≤◌, ◌<◌, length, OnOk, OnErr};
+ghost use Rattle.surge_io.specs.Bytes.{Appends, AppendsFront};
+ghost use Rattle.surge_io.specs.Faults.{Rose};
+ghost use Rattle.surge_io.specs.Pages.{Adds, AddsFront};
+ghost use Rattle.report.specs.MeshText.{IsMeshed, division_line, division_lines, mesh_text, window_line};
+
+use crate::divisions::{division_line, window_line};
+use case_model::{Case, Mesh};
+use regions::Layout;
+use surge_io::{Failed, Page, Sink};
+
+/// Writes how each pipe of a case is divided into reaches, and how the mesh is cut into strands and regions.
+/// `Failed` comes only where the sink's count of faults rose in this call, and then a first part was written.
+pub fn write_mesh<K: Sink>(
+    case: &Case,
+    mesh: &Mesh,
+    layout: &Layout,
+    out: &mut K,
+) -> Result<(), Failed>
+    requires { IsMeshed case.now mesh.now layout.now }
+    ensures all { OnOk result (Appends (K.held out.old) (K.held out.new) (mesh_text case.now mesh.now layout.now)) }
+    ensures front { OnErr result (AppendsFront (K.held out.old) (K.held out.new) (mesh_text case.now mesh.now layout.now)) }
+    ensures cause { OnErr result (Rose (K.faults out.old) (K.faults out.new)) }
+    ensures later { K.faults out.old ≤ K.faults out.new }
+{
+    let mut page = Page::new();
+    add_mesh(case, mesh, layout, &mut page, out)?;
+    page.flush(out)
+}
+
+// Adds the whole text.
+fn add_mesh<K: Sink>(
+    case: &Case,
+    mesh: &Mesh,
+    layout: &Layout,
+    page: &mut Page,
+    out: &mut K,
+) -> Result<(), Failed>
+    requires { IsMeshed case.now mesh.now layout.now }
+    ensures all { OnOk result (Adds (K.held out.old) page.old (K.held out.new) page.new (mesh_text case.now mesh.now layout.now)) }
+    ensures front { OnErr result (AddsFront (K.held out.old) page.old (K.held out.new) (mesh_text case.now mesh.now layout.now)) }
+    ensures cause { OnErr result (Rose (K.faults out.old) (K.faults out.new)) }
+    ensures later { K.faults out.old ≤ K.faults out.new }
+{
+    add_divisions(case, mesh, layout, page, out)?;
+    let line = window_line(layout);
+    page.add(out, line.as_bytes())
+}
+
+// Adds the lines of all pipes.
+fn add_divisions<K: Sink>(
+    case: &Case,
+    mesh: &Mesh,
+    layout: &Layout,
+    page: &mut Page,
+    out: &mut K,
+) -> Result<(), Failed>
+    requires { IsMeshed case.now mesh.now layout.now }
+    ensures all { OnOk result (Adds (K.held out.old) page.old (K.held out.new) page.new (division_lines case.now mesh.now)) }
+    ensures front { OnErr result (AddsFront (K.held out.old) page.old (K.held out.new) (division_lines case.now mesh.now)) }
+    ensures cause { OnErr result (Rose (K.faults out.old) (K.faults out.new)) }
+    ensures later { K.faults out.old ≤ K.faults out.new }
+{
+    for p in 0..case.pipes.as_slice().len() {
+        let line = division_line(case, mesh, layout, p as u32);
+        page.add(out, line.as_bytes())?;
+    }
+    Ok(())
+}
