@@ -4,7 +4,6 @@ use Rattle.std.proofs.lemmas.List.{append-nil}
 use Rattle.std.proofs.lemmas.Bool.{lt-ltb}
 use Rattle.std.specs.Prelude.{IfSome}
 use Rattle.surge_io.specs.Bytes.{IsReading, HasRead}
-use Rattle.command_words.specs.declared.job.Command.{Command}
 use Rattle.command_words.specs.declared.job.Job.{Job}
 use Rattle.command_words.specs.CommandLine.{job_of}
 use Rattle.netfile.specs.Verdict.{verdict}
@@ -28,18 +27,18 @@ same_verdict taken bytes r = elim r.2 [
 ]
 
 -- what holds of the answer to the bytes that were taken holds of the answer to all
-pub for_taken : (left : Option (List ℕ)) (command : Command) (taken : List ℕ) (P : Answer → Type 0) → IfSome left (IsReading 8_388_608 taken)
-    → P (answer_to command (verdict taken)) → IfSome left (λ bytes. P (answer_to command (verdict bytes)))
-for_taken None command taken P r p = tt
-for_taken (Some bytes) command taken P r p = subst P (ap (answer_to command) (same_verdict taken bytes r)) p
+pub for_taken : (left : Option (List ℕ)) (job : Job) (taken : List ℕ) (P : Answer → Type 0) → IfSome left (IsReading 8_388_608 taken)
+    → P (answer_to job (verdict taken)) → IfSome left (λ bytes. P (answer_to job (verdict bytes)))
+for_taken None job taken P r p = tt
+for_taken (Some bytes) job taken P r p = subst P (ap (answer_to job) (same_verdict taken bytes r)) p
 
-answer_read : (words : List (List ℕ)) (job : Job) (bytes : List ℕ) → job_of words ≡ Some job → reads job.command ≡ true → answer_to job.command (verdict bytes) ≡ answer words bytes
+answer_read : (words : List (List ℕ)) (job : Job) (bytes : List ℕ) → job_of words ≡ Some job → reads job.command ≡ true → answer_to job (verdict bytes) ≡ answer words bytes
 unfolding answer
 answer_read words job bytes w r = rw (w, r) refl
 
 -- what holds of a command's answer holds of the answer to words that name it
 pub for_job : (left : Option (List ℕ)) (words : List (List ℕ)) (job : Job) (P : Answer → Type 0) → job_of words ≡ Some job → reads job.command ≡ true
-    → IfSome left (λ bytes. P (answer_to job.command (verdict bytes))) → IfSome left (λ bytes. P (answer words bytes))
+    → IfSome left (λ bytes. P (answer_to job (verdict bytes))) → IfSome left (λ bytes. P (answer words bytes))
 for_job None words job P w r p = tt
 for_job (Some bytes) words job P w r p = subst P (answer_read words job bytes w r) p
 

@@ -14,7 +14,9 @@ use Rattle.envelope.specs.Rows.{extreme_at}
 use Rattle.netfile.specs.Verdict.{verdict}
 use Rattle.scheme.specs.Laws.{meaning_of}
 use Rattle.report.specs.Messages.{usage_text, accepted_text, refusal_text, range_text}
+use Rattle.report.specs.MeshText.{mesh_text}
 use Rattle.report.specs.Report.{report_text}
+use Rattle.regions.specs.Layouts.{layout_of}
 
 pub record Answer : Type 0 where
   pub text : List ℕ
@@ -37,24 +39,31 @@ abbrev pub computed : Case → Mesh → Option (ℕ × ℕ) → Answer
 computed case mesh (Some fault) = record { text = range_text case mesh fault.0 fault.1; status = 3 }
 computed case mesh None = record { text = rows_text case mesh; status = 0 }
 
--- what a command answers to an accepted case
-abbrev pub answer_case : Command → Case → Mesh → Answer
-answer_case Check case mesh = record { text = accepted_text; status = 0 }
-answer_case Rounds case mesh = computed case mesh (first_fault (meaning_of case mesh) case.steps)
-answer_case MeshCommand case mesh = usage
-answer_case Run case mesh = usage
-answer_case Drill case mesh = usage
+-- the mesh of an accepted case, cut for windows of at most so many steps
+abbrev pub cut : Case → Mesh → ℕ → Answer
+cut case mesh wish = record { text = mesh_text case mesh (layout_of case.steps mesh wish); status = 0 }
 
--- what it answers to a text that means this
-abbrev pub answer_to : Command → Result (Case × Mesh) Refusal → Answer
-answer_to command (Ok accepted) = answer_case command accepted.0 accepted.1
-answer_to command (Err refusal) = refused refusal.number refusal.line
+-- what a command answers to an accepted case, where windows of at most so many steps are wished for
+abbrev pub answer_by : Command → ℕ → Case → Mesh → Answer
+answer_by Check wish case mesh = record { text = accepted_text; status = 0 }
+answer_by MeshCommand wish case mesh = cut case mesh wish
+answer_by Rounds wish case mesh = computed case mesh (first_fault (meaning_of case mesh) case.steps)
+answer_by Run wish case mesh = usage
+answer_by Drill wish case mesh = usage
+
+abbrev pub answer_case : Job → Case → Mesh → Answer
+answer_case job case mesh = answer_by job.command job.window case mesh
+
+-- what a job answers to a text that means this
+abbrev pub answer_to : Job → Result (Case × Mesh) Refusal → Answer
+answer_to job (Ok accepted) = answer_case job accepted.0 accepted.1
+answer_to job (Err refusal) = refused refusal.number refusal.line
 
 -- whether a command reads a case text; the others are not built yet
 abbrev pub reads : Command → Bool
 reads Check = true
+reads MeshCommand = true
 reads Rounds = true
-reads MeshCommand = false
 reads Run = false
 reads Drill = false
 
@@ -67,7 +76,7 @@ abbrev pub are_read : List (List ℕ) → Bool
 are_read words = job_reads (job_of words)
 
 abbrev pub answer_job : Option Job → List ℕ → Answer
-answer_job (Some job) bytes = if reads job.command then answer_to job.command (verdict bytes) else usage
+answer_job (Some job) bytes = if reads job.command then answer_to job (verdict bytes) else usage
 answer_job None bytes = usage
 
 -- the answer to these words and this input

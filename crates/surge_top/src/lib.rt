@@ -3,6 +3,7 @@
 
 mod causes;
 mod computing;
+mod cutting;
 mod folding;
 mod status;
 mod top;

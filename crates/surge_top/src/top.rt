@@ -1,15 +1,17 @@
 ghost use Rattle.std.specs.Prelude.{◌≡◌, ◌⊎◌, ◌<◌, ◌≤◌, ◌≢◌, ℕ, List as Items, map, length, true, false, Some, None, Ok, IfSome, MatchResult};
 ghost use Rattle.surge_io.specs.Bytes.{Appends, AppendsFront, IsReading, HasRead};
 ghost use Rattle.surge_io.specs.Faults.{Rose};
+ghost use Rattle.command_words.specs.CommandLine.{IsJob};
 ghost use Rattle.netfile.specs.Accepted.{IsAccepted};
 ghost use Rattle.netfile.specs.Verdict.{verdict};
 ghost use Rattle.surge_top.specs.Answer.{answer, answer_to, answer_case as answer_of, reads, are_read};
 ghost use Rattle.surge_top.specs.Status.{number_of, IsAnswered};
 
 use crate::computing::rounds;
+use crate::cutting::cut;
 use crate::status::Status;
 use case_model::{Case, Mesh};
-use command_words::{Command, WordsFault, read_words};
+use command_words::{Command, Job, WordsFault, read_words};
 use netfile::{MOST_BYTES, read_case};
 use reaches::CaseFault;
 use report::{write_accepted, write_refusal, write_usage};
@@ -57,7 +59,7 @@ pub fn surge_plain<R: AllocGlobal, S: Source, K: Sink>(
         ⊎ ((result ≡ Status.Memory) ⊎ (number_of result ≡ (answer (map (λ w. w.now) words.now) bytes).status))) }
 {
     match read_words(rt.alloc(), words) {
-        Ok(job) if reads_input(job.command) => answer_input(rt.alloc(), job.command, src, out),
+        Ok(job) if reads_input(job.command) => answer_input(rt.alloc(), job, src, out),
         Ok(_) => ended(write_usage(out), Status::Words),
         Err(WordsFault::Words) => ended(write_usage(out), Status::Words),
         Err(WordsFault::Memory) => Status::Memory,
@@ -69,23 +71,24 @@ fn reads_input(command: Command) -> bool
     ensures { result ≡ reads command }
 {
     match command {
-        Command::Check | Command::Rounds => true,
-        Command::Mesh | Command::Run | Command::Drill => false,
+        Command::Check | Command::Mesh | Command::Rounds => true,
+        Command::Run | Command::Drill => false,
     }
 }
 
-// Writes the answer of a command to what the source has left.
+// Writes the answer of a job to what the source has left.
 fn answer_input<S: Source, K: Sink>(
     alloc: Global,
-    command: Command,
+    job: Job,
     src: &mut S,
     out: &mut K,
 ) -> Status
+    requires { IsJob job }
     ensures answer { IfSome (S.left src.old) (λ bytes. IsAnswered result →
-        Appends (K.held out.old) (K.held out.new) (answer_to command (verdict bytes)).text
-        × (number_of result ≡ (answer_to command (verdict bytes)).status)) }
+        Appends (K.held out.old) (K.held out.new) (answer_to job (verdict bytes)).text
+        × (number_of result ≡ (answer_to job (verdict bytes)).status)) }
     ensures front { IfSome (S.left src.old) (λ bytes. result ≡ Status.WriteFault →
-        AppendsFront (K.held out.old) (K.held out.new) (answer_to command (verdict bytes)).text) }
+        AppendsFront (K.held out.old) (K.held out.new) (answer_to job (verdict bytes)).text) }
     ensures unwritten { (result ≡ Status.ReadFault) ⊎ (result ≡ Status.Memory) → K.held out.new ≡ K.held out.old }
     ensures read_fault { result ≡ Status.ReadFault → Rose (S.faults src.old) (S.faults src.new) }
     ensures write_fault { result ≡ Status.WriteFault → Rose (K.faults out.old) (K.faults out.new) }
@@ -94,10 +97,10 @@ fn answer_input<S: Source, K: Sink>(
     ensures read { (result ≢ Status.ReadFault) → (result ≢ Status.Memory) →
         IfSome (S.left src.old) (λ bytes. (taken : Items ℕ) × IsReading 8_388_608 taken bytes × HasRead (S.left src.old) (S.left src.new) taken) }
     ensures complete { IfSome (S.left src.old) (λ bytes. (Rose (S.faults src.old) (S.faults src.new) ⊎ Rose (K.faults out.old) (K.faults out.new))
-        ⊎ ((result ≡ Status.Memory) ⊎ (number_of result ≡ (answer_to command (verdict bytes)).status))) }
+        ⊎ ((result ≡ Status.Memory) ⊎ (number_of result ≡ (answer_to job (verdict bytes)).status))) }
 {
     match whole(alloc, src, MOST_BYTES) {
-        Ok(bytes) => answer_text(alloc, command, &bytes, out),
+        Ok(bytes) => answer_text(alloc, job, &bytes, out),
         Err(ReadFault::Memory) => Status::Memory,
         Err(ReadFault::Failed) => Status::ReadFault,
     }
@@ -113,17 +116,18 @@ pub(crate) fn ended(written: Result<(), Failed>, done: Status) -> Status
     }
 }
 
-// Writes the answer of a command to a text of any length.
-fn answer_text<K: Sink>(alloc: Global, command: Command, bytes: &[u8], out: &mut K) -> Status
-    ensures answer { IsAnswered result → Appends (K.held out.old) (K.held out.new) (answer_to command (verdict bytes.now)).text × (number_of result ≡ (answer_to command (verdict bytes.now)).status) }
-    ensures front { result ≡ Status.WriteFault → AppendsFront (K.held out.old) (K.held out.new) (answer_to command (verdict bytes.now)).text }
+// Writes the answer of a job to a text of any length.
+fn answer_text<K: Sink>(alloc: Global, job: Job, bytes: &[u8], out: &mut K) -> Status
+    requires { IsJob job }
+    ensures answer { IsAnswered result → Appends (K.held out.old) (K.held out.new) (answer_to job (verdict bytes.now)).text × (number_of result ≡ (answer_to job (verdict bytes.now)).status) }
+    ensures front { result ≡ Status.WriteFault → AppendsFront (K.held out.old) (K.held out.new) (answer_to job (verdict bytes.now)).text }
     ensures unwritten { result ≡ Status.Memory → K.held out.new ≡ K.held out.old }
     ensures read { result ≢ Status.ReadFault }
     ensures cause { result ≡ Status.WriteFault → Rose (K.faults out.old) (K.faults out.new) }
     ensures later { K.faults out.old ≤ K.faults out.new }
 {
     match read_case(alloc, bytes) {
-        Ok((case, mesh)) => answer_case(alloc, command, &case, &mesh, out),
+        Ok((case, mesh)) => answer_case(alloc, job, &case, &mesh, out),
         Err(CaseFault::Refused { number, line }) => ended(
             write_refusal(number, line as u64, out),
             Status::Refused,
@@ -132,25 +136,27 @@ fn answer_text<K: Sink>(alloc: Global, command: Command, bytes: &[u8], out: &mut
     }
 }
 
-// Writes the answer of a command to an accepted case.
+// Writes the answer of a job to an accepted case.
 fn answer_case<K: Sink>(
     alloc: Global,
-    command: Command,
+    job: Job,
     case: &Case,
     mesh: &Mesh,
     out: &mut K,
 ) -> Status
+    requires job { IsJob job }
     requires accepted { IsAccepted case.now mesh.now }
-    ensures answer { IsAnswered result → Appends (K.held out.old) (K.held out.new) (answer_of command case.now mesh.now).text × (number_of result ≡ (answer_of command case.now mesh.now).status) }
-    ensures front { result ≡ Status.WriteFault → AppendsFront (K.held out.old) (K.held out.new) (answer_of command case.now mesh.now).text }
+    ensures answer { IsAnswered result → Appends (K.held out.old) (K.held out.new) (answer_of job case.now mesh.now).text × (number_of result ≡ (answer_of job case.now mesh.now).status) }
+    ensures front { result ≡ Status.WriteFault → AppendsFront (K.held out.old) (K.held out.new) (answer_of job case.now mesh.now).text }
     ensures unwritten { result ≡ Status.Memory → K.held out.new ≡ K.held out.old }
     ensures read { result ≢ Status.ReadFault }
     ensures cause { result ≡ Status.WriteFault → Rose (K.faults out.old) (K.faults out.new) }
     ensures later { K.faults out.old ≤ K.faults out.new }
 {
-    match command {
+    match job.command {
         Command::Check => ended(write_accepted(out), Status::Done),
+        Command::Mesh => cut(alloc, case, mesh, job.window, out),
         Command::Rounds => rounds(alloc, case, mesh, out),
-        Command::Mesh | Command::Run | Command::Drill => ended(write_usage(out), Status::Words),
+        Command::Run | Command::Drill => ended(write_usage(out), Status::Words),
     }
 }

@@ -261,7 +261,7 @@ fn faulty_words_leave_the_source_unread(rt: HostRuntime) -> Result<(), Fail> {
         &["surge", "run", "5"],
         &["surge", "--help"],
         &["surge"],
-        &["surge", "mesh"],
+        &["surge", "mesh", "--window", "65"],
         &["surge", "run", "--slots", "2"],
         &["surge", "drill", "7"],
     ];
@@ -271,6 +271,47 @@ fn faulty_words_leave_the_source_unread(rt: HostRuntime) -> Result<(), Fail> {
         let ended = surge_plain(&rt, words, &mut source, &mut sink);
         assert_eq!(rt; ended, Status::Words);
         assert_eq!(rt; sink.bytes(), USAGE);
+    }
+    Ok(())
+}
+
+// A reach is 100 m, but in the main below 10 m. By hand: 40 reaches make 20 sections in a window of 2, so
+// 3 nodes, 19 seams and 21 sections, of which in 5 windows the stations have 5 regions and the sections
+// 6. One pipe of 7 reaches is one section over two nodes: 2 windows of 4 steps. Two reaches in windows of
+// one step are one section, since each has at least 2 reaches. The main has 2, 2 and 200 reaches: 4 nodes
+// and 99 seams with 10,000 regions, and 102 sections with 10,001.
+#[test]
+fn meshes_are_cut_as_worked_out_by_hand(rt: HostRuntime) -> Result<(), Fail> {
+    let rows: [(&[&str], &[u8], &[u8]); 4] = [
+        (
+            &["surge", "mesh"],
+            b"surge 1\nstep 0.1\nsteps 10\nreservoir A 0 100\njunction J 0 0 100\nreservoir B 0 100\npipe P A J 200 1 1000 0 0\npipe Q J B 4000 1 1000 0 0\n",
+            b"pipe P 2 speed 1000.000 b 129.834328 r 0.000000000000\npipe Q 40 speed 1000.000 b 129.834328 r 0.000000000000\nwindow 2 strands 43 regions 236\n",
+        ),
+        (
+            &["surge", "mesh", "--window", "4"],
+            b"surge 1\nstep 0.1\nsteps 6\nreservoir A 0 100\nreservoir B 0 100\npipe P A B 700 1 1000 0 0\n",
+            b"window 4 strands 3 regions 7\n",
+        ),
+        (
+            &["surge", "mesh", "--window", "1"],
+            STILL,
+            b"window 1 strands 3 regions 7\n",
+        ),
+        (
+            &["surge", "mesh"],
+            b"surge 1\nstep 0.01\nsteps 20000\nevery 1000\ncurve C 0 60 0.2 50 0.4 30\nspeeds S 0 1 2 1 6 0\ngas G 0.1 500 1 60 2 40 4 25 20 5\nreservoir LOW 0 10\npump PU 0 @C @S 10 60\nvessel VE 0 @G 1\nreservoir HIGH 0 47\npipe P1 LOW PU 20 0.4 1000 0.02 0.2\npipe P2 PU VE 20 0.4 1000 0.02 0.2\npipe P3 VE HIGH 2000 0.4 1000 0.02 0.2\nprobe P3 0\nwatch VE\n",
+            b"window 2 strands 205 regions 2050102\n",
+        ),
+    ];
+    for (words, text, last) in rows {
+        let mut source = source(rt.alloc(), text, &[])?;
+        let mut sink = MemorySink::make(rt.alloc(), 1_000, Vec::new(rt.alloc()))?;
+        let ended = surge_plain(&rt, words, &mut source, &mut sink);
+        assert_eq!(rt; ended, Status::Done);
+        let printed = sink.bytes();
+        let before = printed.len().saturating_sub(last.len());
+        assert_eq!(rt; &printed[before..], last);
     }
     Ok(())
 }

@@ -14,6 +14,10 @@ pub returns-clause-checked : goal.returns-clause-checked
 unfolding answer
 returns-clause-checked c = λ words bytes job case mesh w k v. rw (w, k, v) refl
 
+pub returns-clause-cut : goal.returns-clause-cut
+unfolding answer
+returns-clause-cut c = λ words bytes job case mesh w k v. rw (w, k, v) refl
+
 pub returns-clause-range : goal.returns-clause-range
 unfolding answer
 returns-clause-range c = λ words bytes job case mesh fault w k v f. rw (w, k, v, f) refl

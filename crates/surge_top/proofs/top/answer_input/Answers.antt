@@ -10,23 +10,23 @@ use Rattle.surge_top.proofs.top.answer_input.Goals as goal
 
 pub returns-in-Ok-clause-answer : goal.returns-in-Ok-clause-answer
 returns-in-Ok-clause-answer g c =
-    for_taken (g.S.Source.left c.args.src.now) c.args.command c.in-Ok.bytes.items
+    for_taken (g.S.Source.left c.args.src.now) c.args.job c.in-Ok.bytes.items
     (λ a. IsAnswered c.answer_text.result → Appends (g.K.Sink.held c.args.out.now) (g.K.Sink.held c.answer_text.new.out) a.text × (number_of c.answer_text.result ≡ a.status))
     c.in-Ok.ensures.bytes (rw (← c.deref.ensures.value) c.answer_text.ensures.answer)
 
 pub returns-in-Ok-clause-front : goal.returns-in-Ok-clause-front
 returns-in-Ok-clause-front g c =
-    for_taken (g.S.Source.left c.args.src.now) c.args.command c.in-Ok.bytes.items
+    for_taken (g.S.Source.left c.args.src.now) c.args.job c.in-Ok.bytes.items
     (λ a. c.answer_text.result ≡ WriteFault → AppendsFront (g.K.Sink.held c.args.out.now) (g.K.Sink.held c.answer_text.new.out) a.text)
     c.in-Ok.ensures.bytes (rw (← c.deref.ensures.value) c.answer_text.ensures.front)
 
 pub returns-in-Ok-clause-complete : goal.returns-in-Ok-clause-complete
 returns-in-Ok-clause-complete g c =
-    for_taken (g.S.Source.left c.args.src.now) c.args.command c.in-Ok.bytes.items
+    for_taken (g.S.Source.left c.args.src.now) c.args.job c.in-Ok.bytes.items
     (λ a. (Rose (g.S.Source.faults c.args.src.now) (g.S.Source.faults c.whole.new.src) ⊎ Rose (g.K.Sink.faults c.args.out.now) (g.K.Sink.faults c.answer_text.new.out))
     ⊎ ((c.answer_text.result ≡ Memory) ⊎ (number_of c.answer_text.result ≡ a.status)))
     c.in-Ok.ensures.bytes
-    (complete_from {X = Appends (g.K.Sink.held c.args.out.now) (g.K.Sink.held c.answer_text.new.out) (answer_to c.args.command (verdict c.in-Ok.bytes.items)).text} c.answer_text.result (answer_to c.args.command (verdict c.in-Ok.bytes.items)).status c.answer_text.ensures.read (rw (← c.deref.ensures.value) c.answer_text.ensures.answer) c.answer_text.ensures.cause)
+    (complete_from {X = Appends (g.K.Sink.held c.args.out.now) (g.K.Sink.held c.answer_text.new.out) (answer_to c.args.job (verdict c.in-Ok.bytes.items)).text} c.answer_text.result (answer_to c.args.job (verdict c.in-Ok.bytes.items)).status c.answer_text.ensures.read (rw (← c.deref.ensures.value) c.answer_text.ensures.answer) c.answer_text.ensures.cause)
 
 pub returns-in-Ok-clause-read : goal.returns-in-Ok-clause-read
 returns-in-Ok-clause-read g c =
