@@ -1,15 +1,14 @@
 -- The text of a mesh: how each pipe is divided into reaches, and how space and time are cut into regions.
-use Rattle.std.specs.Prelude.{◌≡◌, ℕ, ◌+◌, ◌*◌, ◌<◌, ◌≤◌, not, ℤ, pos, unsigned_abs, List, [], ◌∷◌, ◌++◌, length, slice_index_or, codes}
+use Rattle.std.specs.Prelude.{◌≡◌, ℕ, ◌+◌, ◌*◌, ◌<◌, ◌≤◌, not, ℤ, pos, unsigned_abs, List, [], ◌∷◌, ◌++◌, length, slice_index_or, codes, All}
 use Rattle.std.specs.List.{filter, flat_map, range_with_len}
 use Rattle.fixed_num.specs.Written.{written}
 use Rattle.case_model.specs.Formulas.{adjusted_speed}
-use Rattle.case_model.specs.Limits.{IsRead}
-use Rattle.case_model.specs.Mesh.{IsMesh, no_pipe, reaches}
+use Rattle.case_model.specs.Limits.{IsPipe, IsWithin}
+use Rattle.case_model.specs.Mesh.{no_pipe, reaches}
 use Rattle.case_model.specs.Parts.{pipe_at}
 use Rattle.case_model.specs.declared.cases.Case.{Case}
 use Rattle.case_model.specs.declared.meshes.Mesh.{Mesh}
 use Rattle.case_model.specs.declared.meshes.PipeMesh.{PipeMesh}
-use Rattle.regions.specs.Regions.{IsWhole}
 use Rattle.regions.specs.Sides.{is_section_shape}
 use Rattle.regions.specs.declared.shapes.Layout.{Layout}
 use Rattle.report.specs.Lines.{line_of, count_text}
@@ -54,6 +53,11 @@ sections_of layout = length (filter is_section_shape layout.shapes)
 abbrev pub regions_of : Layout → ℕ
 regions_of layout = layout.windows * stations_of layout + (layout.windows + 1) * sections_of layout
 
+-- a layout of so many windows and strands at most
+pub record IsCounted (layout : Layout) : Type 0 where
+  pub few_windows : layout.windows ≤ 100_000_000
+  pub few_strands : length layout.shapes ≤ 1_000_000
+
 -- the line of the window in steps, the strands, and all their regions
 unfoldable pub window_line : Layout → List ℕ
 window_line layout =
@@ -62,10 +66,12 @@ window_line layout =
 unfoldable pub mesh_text : Case → Mesh → Layout → List ℕ
 mesh_text case mesh layout = division_lines case mesh ++ window_line layout
 
--- what the text of a mesh is written from: a case and its mesh within their limits, and a layout
+-- what the text of a mesh is written from: a time step, lengths, reaches, frictions and counts within their limits
 pub record IsMeshed (case : Case) (mesh : Mesh) (layout : Layout) : Type 0 where
-  pub read : IsRead case
-  pub good : IsMesh mesh
   pub same_pipes : length mesh.pipes ≡ length case.pipes
+  pub few_pipes : length case.pipes ≤ 4_096
+  pub dt : IsWithin (pos 1) (pos 1_000_000) case.dt
+  pub pipes : All IsPipe case.pipes
+  pub some_reaches : (p : ℕ) → p < length mesh.pipes → 2 ≤ reaches mesh p
   pub frictions : (p : ℕ) → p < length mesh.pipes → unsigned_abs (division_of mesh p).r ≤ 100_000_000_000_000_000_000
-  pub whole : IsWhole layout
+  pub counted : IsCounted layout

@@ -4,10 +4,9 @@ ghost use Rattle.std.specs.List.{filter};
 ghost use Rattle.fixed_num.specs.Rounding.{rnd as rounded};
 ghost use Rattle.case_model.specs.Formulas.{adjusted_speed};
 ghost use Rattle.case_model.specs.Limits.{IsWithin};
-ghost use Rattle.regions.specs.Regions.{IsWhole};
 ghost use Rattle.regions.specs.Sides.{is_section_shape};
 ghost use Rattle.report.specs.Lines.{count_text, line_of, spaced};
-ghost use Rattle.report.specs.MeshText.{IsMeshed, division_line, friction_text, impedance_text, regions_of, sections_of, speed_of, speed_text, window_line};
+ghost use Rattle.report.specs.MeshText.{IsCounted, IsMeshed, division_line, friction_text, impedance_text, regions_of, sections_of, speed_of, speed_text, window_line};
 
 use crate::fields::{add_count, add_field, add_friction, add_impedance, add_speed};
 use case_model::{Case, Mesh, PipeMesh};
@@ -90,7 +89,7 @@ fn quotient(n: u64, d: u64) -> i128
 // The line of the window, the strands and the regions.
 #[tactic(auto, unfolding(crate::specs::MeshText::window_line))]
 pub(crate) fn window_line(layout: &Layout) -> Line
-    requires { IsWhole layout.now }
+    requires { IsCounted layout.now }
     ensures { result ≡ window_line layout.now }
 {
     let mut line = Line::new();
@@ -106,7 +105,7 @@ pub(crate) fn window_line(layout: &Layout) -> Line
 
 // How many regions all strands have.
 fn regions_of(layout: &Layout) -> u64
-    requires { IsWhole layout.now }
+    requires { IsCounted layout.now }
     ensures { result ≡ regions_of layout.now }
 {
     let shapes = layout.shapes.as_slice();

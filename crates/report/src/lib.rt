@@ -17,6 +17,8 @@ pub use messages::{write_accepted, write_range, write_refusal, write_usage};
 pub use writing::write_report;
 
 #[cfg(test)]
+mod mesh_tests;
+#[cfg(test)]
 mod report_tests;
 #[cfg(test)]
 mod tests;

@@ -1,5 +1,5 @@
 -- An accepted case and its mesh are within the limits of a layout and of its text.
-use Rattle.std.proofs.Common.{◌≡◌, ◌≤◌, ℕ, ℤ, pos, ◌≤ℤ◌, length, arith}
+use Rattle.std.proofs.Common.{◌≤◌, ℤ, pos, ◌≤ℤ◌, length, arith}
 use Rattle.std.specs.Prelude.{unsigned_abs}
 use Rattle.std.proofs.lemmas.Int.{ints}
 use Rattle.case_model.specs.declared.cases.Case.{Case}

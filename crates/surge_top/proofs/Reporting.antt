@@ -1,5 +1,5 @@
 -- What a fold keeps of the rows of an accepted case is what the definitions say of them.
-use Rattle.std.proofs.Common.{◌≡◌, ◌∙◌, ℕ, ◌+◌, ◌%◌, ◌<◌, ◌≤◌, true, List, [], ◌∷◌, length, get_or, map, Option, None, Result, Ok, Err, ap, sym, subst, refl, arith}
+use Rattle.std.proofs.Common.{◌≡◌, ◌∙◌, ℕ, ◌+◌, ◌%◌, ◌<◌, ◌≤◌, List, [], ◌∷◌, length, get_or, Option, None, Result, Ok, Err, ap, sym, subst, refl, arith}
 use Rattle.std.specs.List.{All}
 use Rattle.std.specs.Prelude.{MatchResult, OnErr}
 use Rattle.std.proofs.lemmas.List.{get_or-map, length-map}

@@ -50,10 +50,7 @@ pub(crate) fn cut<K: Sink>(
 {
     limits(case, mesh);
     match layout(alloc, case, mesh, wish) {
-        Ok(layout) => ended(
-            write_mesh(case, mesh, &layout, out),
-            Status::Done,
-        ),
+        Ok(layout) => ended(write_mesh(case, mesh, &layout, out), Status::Done),
         Err(AllocError) => Status::Memory,
     }
 }

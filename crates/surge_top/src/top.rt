@@ -77,12 +77,7 @@ fn reads_input(command: Command) -> bool
 }
 
 // Writes the answer of a job to what the source has left.
-fn answer_input<S: Source, K: Sink>(
-    alloc: Global,
-    job: Job,
-    src: &mut S,
-    out: &mut K,
-) -> Status
+fn answer_input<S: Source, K: Sink>(alloc: Global, job: Job, src: &mut S, out: &mut K) -> Status
     requires { IsJob job }
     ensures answer { IfSome (S.left src.old) (λ bytes. IsAnswered result →
         Appends (K.held out.old) (K.held out.new) (answer_to job (verdict bytes)).text
@@ -137,13 +132,7 @@ fn answer_text<K: Sink>(alloc: Global, job: Job, bytes: &[u8], out: &mut K) -> S
 }
 
 // Writes the answer of a job to an accepted case.
-fn answer_case<K: Sink>(
-    alloc: Global,
-    job: Job,
-    case: &Case,
-    mesh: &Mesh,
-    out: &mut K,
-) -> Status
+fn answer_case<K: Sink>(alloc: Global, job: Job, case: &Case, mesh: &Mesh, out: &mut K) -> Status
     requires job { IsJob job }
     requires accepted { IsAccepted case.now mesh.now }
     ensures answer { IsAnswered result → Appends (K.held out.old) (K.held out.new) (answer_of job case.now mesh.now).text × (number_of result ≡ (answer_of job case.now mesh.now).status) }
