@@ -83,3 +83,15 @@ smallest-retaken last x x' s s' y y' t t' z z' u a b c d e h f g k p q =
     subst (λ v. IsSmallest (either f g) last v u) (sym e) (h f g k
     (subst (λ v. IsSmallest f last x' v) (sym b) (subst (λ v. IsSmallest f last v s) (sym a) p))
     (subst (λ v. IsSmallest g last y' v) (sym d) (subst (λ v. IsSmallest g last v t) (sym c) q)))
+
+-- the same where the first of the two is taken
+pub over-retaken : (last : ℕ) (x x' : ℤ) (s s' : ℕ) (y y' : ℤ) (t t' : ℕ) → x' ≡ x → s' ≡ s → y' ≡ y → t' ≡ t → TakesGreatest last x' s' y' t' x' s' → TakesGreatest last x s y t x s
+over-retaken last x x' s s' y y' t t' a b c d h =
+    subst (λ v. TakesGreatest last v s y t v s) a (subst (λ v. TakesGreatest last x' v y t x' v) b (subst (λ v. TakesGreatest last x' s' v t x' s') c (subst (λ v. TakesGreatest last x' s' y' v x' s') d h)))
+
+pub under-retaken : (last : ℕ) (x x' : ℤ) (s s' : ℕ) (y y' : ℤ) (t t' : ℕ) → x' ≡ x → s' ≡ s → y' ≡ y → t' ≡ t → TakesSmallest last x' s' y' t' x' s' → TakesSmallest last x s y t x s
+under-retaken last x x' s s' y y' t t' a b c d h =
+    subst (λ v. TakesSmallest last v s y t v s) a (subst (λ v. TakesSmallest last x' v y t x' v) b (subst (λ v. TakesSmallest last x' s' v t x' s') c (subst (λ v. TakesSmallest last x' s' y' v x' s') d h)))
+
+pub in-between : (max min omax omin hi lo ohi olo : ℤ) → hi ≡ max → lo ≡ min → ohi ≡ omax → olo ≡ omin → ohi ≤ℤ hi → lo ≤ℤ olo → omin ≤ℤ omax → min ≤ℤ max
+in-between max min omax omin hi lo ohi olo a b c d over under o = omega (arith, ints)

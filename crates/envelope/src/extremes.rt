@@ -3,7 +3,7 @@ ghost use Rattle.case_model.specs.Samples.{Sample as Taken};
 ghost use Rattle.envelope.specs.Extremes.{AgreeAlong, either, unmet, HasExtreme};
 
 use crate::Sample;
-use crate::peaks::{Peak, greater, lesser};
+use crate::peaks::{Peak, greater, is_over, is_under, lesser};
 use std::alloc::{AllocError, Global};
 
 /// The envelope of a place up to a step: each number with the first step at which it stands.
@@ -75,6 +75,22 @@ impl Extreme {
         }
     }
 
+    /// Whether what another stands for changes nothing here.
+    fn covers(&self, other: &Extreme) -> bool
+        ensures { result ≡ true → (f g : ℕ → Option Taken) (last : ℕ) → AgreeAlong f g → HasExtreme f last self.now → HasExtreme g last other.now → HasExtreme (either f g) last self.now }
+    {
+        if other.is_unmet() {
+            return false;
+        }
+        if !is_over(self.highest(), other.highest()) {
+            return false;
+        }
+        if !is_under(self.lowest(), other.lowest()) {
+            return false;
+        }
+        is_over(self.fullest(), other.fullest())
+    }
+
     fn is_unmet(&self) -> bool
         ensures unmet { result ≡ true → self.now.max <ℤ self.now.min }
         ensures met { result ≡ false → self.now.min ≤ℤ self.now.max }
@@ -120,12 +136,14 @@ pub(crate) fn blank_cells(alloc: Global, count: usize) -> Result<Vec<Extreme>, A
     vec![in alloc; Extreme::unmet(); count]
 }
 
-/// Joins what another extreme stands for to that of a cell.
+/// Joins what another extreme stands for to that of a cell. Mostly nothing changes, and nothing is written.
 pub(crate) fn join_cell(cells: &mut Vec<Extreme>, cell: usize, other: &Extreme)
     requires { cell < length cells.old.items }
     ensures here { (f g : ℕ → Option Taken) (last : ℕ) → AgreeAlong f g → HasExtreme f last (slice_index_or cells.old.items cell unmet) → HasExtreme g last other.now → HasExtreme (either f g) last (slice_index_or cells.new.items cell unmet) }
     ensures others { (c : ℕ) → c ≢ cell → slice_index_or cells.new.items c unmet ≡ slice_index_or cells.old.items c unmet }
     ensures count { length cells.new.items ≡ length cells.old.items }
 {
-    cells[cell] = cells[cell].joined(other);
+    if !cells[cell].covers(other) {
+        cells[cell] = cells[cell].joined(other);
+    }
 }

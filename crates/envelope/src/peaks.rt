@@ -1,4 +1,4 @@
-ghost use Rattle.std.specs.Prelude.{◌≡◌, ℕ, ℤ, Option};
+ghost use Rattle.std.specs.Prelude.{◌≡◌, ℕ, ℤ, ◌≤ℤ◌, true, Option};
 ghost use Rattle.case_model.specs.Samples.{IsGreatest, IsSmallest};
 ghost use Rattle.envelope.specs.Extremes.{AgreeAlong, either};
 
@@ -35,4 +35,26 @@ pub(crate) fn lesser(a: Peak, b: Peak) -> Peak
         return b;
     }
     if a.step <= b.step { a } else { b }
+}
+
+/// Whether the first is the greater value, or of two equal ones the earlier.
+pub(crate) fn is_over(a: Peak, b: Peak) -> bool
+    ensures over { result ≡ true → b.value ≤ℤ a.value }
+    ensures taken { result ≡ true → (f g : ℕ → Option ℤ) (last : ℕ) → AgreeAlong f g → IsGreatest f last a.value a.step → IsGreatest g last b.value b.step → IsGreatest (either f g) last a.value a.step }
+{
+    if a.value == b.value {
+        return a.step <= b.step;
+    }
+    b.value < a.value
+}
+
+/// Whether the first is the lesser value, or of two equal ones the earlier.
+pub(crate) fn is_under(a: Peak, b: Peak) -> bool
+    ensures under { result ≡ true → a.value ≤ℤ b.value }
+    ensures taken { result ≡ true → (f g : ℕ → Option ℤ) (last : ℕ) → AgreeAlong f g → IsSmallest f last a.value a.step → IsSmallest g last b.value b.step → IsSmallest (either f g) last a.value a.step }
+{
+    if a.value == b.value {
+        return a.step <= b.step;
+    }
+    a.value < b.value
 }
