@@ -10,3 +10,4 @@ pub mod Read
 pub mod Overall
 pub mod Numbered
 pub mod RowFolds
+pub mod Lined

@@ -30,7 +30,7 @@ past span place h = grind (arith, nat_tests)
 pub or-over : (i j : ℕ) → (i ≤ j) ⊎ (j < i)
 or-over i j = grind arith
 
-at-most : (spans : List (ℕ × ℕ)) (place i : ℕ) → i < length spans → place < end_of_span spans i → span_of spans place ≤ i
+pub at-most : (spans : List (ℕ × ℕ)) (place i : ℕ) → i < length spans → place < end_of_span spans i → span_of spans place ≤ i
 at-most spans place i l h = elim (or-over (span_of spans place) i) [
   | inl w ↦ w
   | inr w ↦ let e = not-past (get_or spans i no_span) place (fails_before_first (λ span. nat_lt place (span.0 + span.1)) spans i no_span w) in absurd (omega arith)

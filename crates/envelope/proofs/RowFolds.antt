@@ -1,5 +1,5 @@
 -- What a fold keeps that was told the rows of a law.
-use Rattle.std.proofs.Common.{◌≡◌, ◌≢◌, ◌∙◌, ℕ, ◌+◌, ◌%◌, ◌<◌, ◌≤◌, ◌⊎◌, inl, inr, ℤ, refl, sym, ap, subst, Bool, true, false, List, [], ◌∷◌, length, map, get_or, Option, Some, None, arith, eq-eqb, ne_eqb}
+use Rattle.std.proofs.Common.{◌≡◌, ◌≢◌, ◌∙◌, ℕ, ◌%◌, ◌<◌, ◌≤◌, ◌⊎◌, inl, inr, ℤ, refl, sym, ap, subst, Bool, true, false, List, [], ◌∷◌, length, map, get_or, Option, Some, None, arith, eq-eqb, ne_eqb}
 use Rattle.std.specs.Prelude.{◌≤ℤ◌, ◌<ℤ◌}
 use Rattle.std.proofs.lemmas.Bool.{false≢true, le-leb, lt-leb}
 use Rattle.std.proofs.lemmas.Int.{ints}
@@ -22,7 +22,7 @@ use Rattle.case_model.specs.PlaceLaws.{bad-at_node, bad-at_place, length-bad_pla
 use Rattle.case_model.specs.Places.{is_bad, is_bad_state, bad_places}
 use Rattle.case_model.specs.Rows.{Row, row}
 use Rattle.case_model.specs.Samples.{Sample, taken_at, point_sample, node_sample, sample, IsEnvelope}
-use Rattle.envelope.specs.Cells.{is_within, cell_of, end_of_span}
+use Rattle.envelope.specs.Cells.{is_within, cell_of}
 use Rattle.envelope.specs.CellLaws.{within-first, below-first}
 use Rattle.envelope.specs.Extremes.{HasExtreme, IsEnvelopeOf, extreme_over, unmet}
 use Rattle.envelope.specs.Faults.{HasFault}
@@ -36,7 +36,7 @@ use Rattle.envelope.specs.declared.folds.Fold.{Fold}
 use Rattle.envelope.proofs.Joined.{same-extreme}
 use Rattle.envelope.proofs.Numbered.{at-number, number-within, number-at}
 use Rattle.envelope.proofs.Overall.{envelope-is, is-envelope}
-use Rattle.envelope.proofs.Placed.{or-over, within-index}
+use Rattle.envelope.proofs.Placed.{or-over}
 use Rattle.envelope.proofs.Read.{sampled-then, sampled, kept-past, kept-between, kept-line}
 use Rattle.envelope.proofs.Sampled.{decided}
 use Rattle.envelope.proofs.Standing.{same-standing}

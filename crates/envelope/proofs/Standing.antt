@@ -82,3 +82,9 @@ pub blank-line : (f : ℕ → Option Sample) (last every width : ℕ) (line : Li
 blank-line f last every width line h e = λ j l w.
     let m : j < width = omega (arith, ap length e, length-replicate {A = Option Kept}) in
     ap (λ xs. told (get_or xs j None)) e ∙ blank-at width j m ∙ sym (h (j * every))
+
+pub cell-counted : (fold : Fold) (cell : ℕ) → cell < get_or fold.bases.items (length fold.spans.items) 0 → cell < length fold.marks.items
+cell-counted fold cell h = subst (λ n. cell < n) (sym fold.marks_fit) h
+
+pub cells-same : (fold : Fold) (spans : List (ℕ × ℕ)) (bases : List ℕ) (cell : ℕ) → spans ≡ fold.spans.items → bases ≡ fold.bases.items → cell < get_or bases (length spans) 0 → cell < get_or fold.bases.items (length fold.spans.items) 0
+cells-same fold spans bases cell p q h = subst (λ b. cell < get_or b (length fold.spans.items) 0) q (subst (λ s. cell < get_or bases (length s) 0) p h)

@@ -2,7 +2,7 @@
 use Rattle.std.proofs.Common.{◌≡◌, ℕ, ◌+◌, ◌<◌, ◌≤◌, true, List, [], ◌∷◌, length, get_or, subst, sym, arith}
 use Rattle.std.proofs.lemmas.Bool.Decides.{nat_tests}
 use Rattle.std.proofs.lemmas.List.Folds.{list_any_at}
-use Rattle.envelope.specs.Cells.{no_span, has_place, is_within, first_of_span, end_of_span}
+use Rattle.envelope.specs.Cells.{no_span, has_place, is_within, first_of_span, end_of_span, AreInSpan, AreInOneSpan}
 
 has-place : (k : ℕ) (span : ℕ × ℕ) → span.0 ≤ k → k < span.0 + span.1 → has_place k span ≡ true
 has-place k span low high = grind (arith, nat_tests)
@@ -15,6 +15,10 @@ within-span spans i k l low high = list_any_at (has_place k) spans i no_span l (
 -- one span that begins at place 0
 pub within-first : (spans : List (ℕ × ℕ)) (count place : ℕ) → spans ≡ (0, count) ∷ [] → place < count → is_within spans place ≡ true
 within-first spans count place e h = subst (λ s. is_within s place ≡ true) (sym e) (within-span ((0, count) ∷ []) 0 place (omega arith) (omega arith) (omega arith))
+
+-- places below the count of the one span
+pub in-first : (spans : List (ℕ × ℕ)) (count first more : ℕ) → spans ≡ (0, count) ∷ [] → first + more ≤ count → AreInOneSpan spans first more
+in-first spans count first more e h = (0, subst (λ s. AreInSpan s first more 0) (sym e) (record { there = omega arith; low = omega arith; high = omega arith }))
 
 below-count : (count place : ℕ) → is_within ((0, count) ∷ []) place ≡ true → place < count
 unfolding is_within

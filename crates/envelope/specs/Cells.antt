@@ -42,6 +42,16 @@ pub record IsPlaced (spans : List (ℕ × ℕ)) (place i : ℕ) : Type 0 where
   pub low : first_of_span spans i ≤ place
   pub high : place < end_of_span spans i
 
+-- so many places that follow one another are all of span i
+pub record AreInSpan (spans : List (ℕ × ℕ)) (first count i : ℕ) : Type 0 where
+  pub there : i < length spans
+  pub low : first_of_span spans i ≤ first
+  pub high : first + count ≤ end_of_span spans i
+
+-- they are all of one span
+abbrev pub AreInOneSpan : List (ℕ × ℕ) → ℕ → ℕ → Type 0
+AreInOneSpan spans first count = (i : ℕ) × AreInSpan spans first count i
+
 -- the cell of a place that lies in the spans
 unfoldable pub cell_of : List (ℕ × ℕ) → List ℕ → ℕ → ℕ
 cell_of spans bases place = slice_index bases (span_of spans place) + (place - first_of_span spans (span_of spans place))

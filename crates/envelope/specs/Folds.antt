@@ -1,5 +1,5 @@
 -- What a fold stands for.
-use Rattle.std.specs.Prelude.{◌≡◌, ◌≢◌, ℕ, ◌<◌, ◌≤◌, ◌⊎◌, List, [], Option, Some, None, slice_index_or, true, false}
+use Rattle.std.specs.Prelude.{◌≡◌, ◌≢◌, ℕ, ◌<◌, ◌≤◌, ◌⊎◌, List, [], Option, Some, None, length, slice_index, slice_index_or, true, false}
 use Rattle.case_model.specs.Samples.{Sample}
 use Rattle.envelope.specs.Cells.{is_within, cell_of}
 use Rattle.envelope.specs.Extremes.{AgreeAlong, either, HasExtreme, unmet}
@@ -23,9 +23,12 @@ steps_of fold = fold.steps
 abbrev pub every_of : Fold → ℕ
 every_of fold = fold.every
 
--- the cell of a place, and the line of samples that it has
+-- the cell of a place, the count of cells, and the line of samples that a place has
 abbrev pub cell_in : Fold → ℕ → ℕ
 cell_in fold place = cell_of fold.spans.items fold.bases.items place
+
+abbrev pub count_of_cells : Fold → ℕ
+count_of_cells fold = slice_index fold.bases.items (length fold.spans.items)
 
 abbrev pub line_in : Fold → ℕ → Option ℕ
 line_in fold place = slice_index_or fold.marks.items (cell_in fold place) None
@@ -54,6 +57,11 @@ pub record IsFoldOf (spans : List (ℕ × ℕ)) (probes : List ℕ) (steps every
 -- spans, probes, steps and `every` of two folds are the same
 abbrev pub IsSameFold : Fold → Fold → Type 0
 IsSameFold old new = IsFoldOf (spans_of old) (probes_of old) (steps_of old) (every_of old) new
+
+-- and so is the cell of each place
+pub record AreSameCells (old new : Fold) : Type 0 where
+  pub same : IsSameFold old new
+  pub bases_are : new.bases.items ≡ old.bases.items
 
 -- and so is where each place has its numbers
 pub record IsSameLayout (old new : Fold) : Type 0 where

@@ -1,6 +1,7 @@
 -- What folds are told: points of places and states of nodes, each at a step and a place number.
-use Rattle.std.specs.Prelude.{◌≡◌, ℕ, ◌%◌, ◌==◌, ◌&&◌, nat_le, Bool, false, if◌then◌else◌, Option, Some, None, List}
+use Rattle.std.specs.Prelude.{◌≡◌, ℕ, ◌+◌, ◌-◌, ◌%◌, ◌==◌, ◌&&◌, nat_le, nat_lt, Bool, false, if◌then◌else◌, Option, Some, None, List, length, slice_index_or}
 use Rattle.case_model.specs.declared.points.Point.{Point}
+use Rattle.case_model.specs.declared.points.Point.TheVariants.{Bad}
 use Rattle.case_model.specs.declared.states.NodeState.{NodeState}
 use Rattle.case_model.specs.Places.{is_bad, is_bad_state}
 use Rattle.case_model.specs.Samples.{Sample, point_sample, node_sample}
@@ -34,6 +35,11 @@ union map more s k = first_of (map s k) (more s k)
 -- a map with one noting more
 abbrev pub noted : Noted → ℕ → ℕ → Noting → Noted
 noted map step place noting = union map (only step place noting)
+
+-- the points of a line, noted at one step at places that follow one another
+unfoldable pub line_noted : ℕ → ℕ → List Point → Noted
+line_noted step first points s k =
+    if (s == step) && nat_le first k && nat_lt k (first + length points) then Some (OfPoint (slice_index_or points (k - first) Bad)) else None
 
 -- every place of a map lies in these spans
 abbrev pub IsInside : List (ℕ × ℕ) → Noted → Type 0

@@ -37,13 +37,13 @@ impl Fold {
     ghost use Rattle.std.specs.Prelude.{◌≢◌, ◌*◌, ◌<◌, true, false, Option, Some, None, IfOk};
     ghost use Rattle.std.specs.List.{filter};
     ghost use Rattle.case_model.specs.Samples.{Sample as Taken};
-    ghost use Rattle.envelope.specs.Cells.{is_within, first_of_span, end_of_span};
+    ghost use Rattle.envelope.specs.Cells.{is_within, first_of_span, end_of_span, AreInOneSpan};
     ghost use Rattle.envelope.specs.Extremes.{IsEnvelopeOf};
     ghost use Rattle.envelope.specs.Faults.{HasFault};
-    ghost use Rattle.envelope.specs.Folds.{spans_of, probes_of, steps_of, every_of, Stands, IsFoldOf, IsSameFold, IsKeptAt, AreJoined, IsMergeable};
+    ghost use Rattle.envelope.specs.Folds.{spans_of, probes_of, steps_of, every_of, Stands, IsFoldOf, IsSameFold, IsKeptAt, IsSameLayout, AreSameCells, AreJoined, IsMergeable, cell_in, count_of_cells};
     ghost use Rattle.envelope.specs.Kept.{extreme_kept, sample_kept};
     ghost use Rattle.envelope.specs.Lines.{told};
-    ghost use Rattle.envelope.specs.Notings.{Noting, Noted, nothing, only, noted, union, Agree, IsInside, column, sample_over, taken, is_bad_noting};
+    ghost use Rattle.envelope.specs.Notings.{Noting, Noted, nothing, only, noted, line_noted, union, Agree, IsInside, column, sample_over, taken, is_bad_noting};
     ghost use Rattle.envelope.specs.Notings.Noting.{OfPoint, OfNode};
 
     /// A fold of which nothing is noted. A span is a first place and a count; a probe is a place
@@ -104,6 +104,19 @@ impl Fold {
                 self.keep(step, place, &sample);
             }
             Point::Bad => self.fail(step, place),
+        }
+    }
+
+    /// Takes in the points of places that follow one another, of which `first` is the first. A step past
+    /// the last changes nothing.
+    pub fn note_line(&mut self, step: u64, first: u64, points: &[Point])
+        requires { AreInOneSpan (spans_of self.old) first (length points.now) }
+        ensures stands { (map : Noted) → Stands self.old map → Agree map (line_noted step first points.now) → Stands self.new (union map (line_noted step first points.now)) }
+        ensures past { steps_of self.old < step → self.new ≡ self.old }
+        ensures same { IsSameFold self.old self.new }
+    {
+        if step <= self.steps && !points.is_empty() {
+            self.note_within(step, first, points);
         }
     }
 
@@ -182,6 +195,43 @@ impl Fold {
         }
     }
 
+    /// Takes in a line that has a point, at a step up to the last. The cells of a line follow one another.
+    fn note_within(&mut self, step: u64, first: u64, points: &[Point])
+        requires step { step ≤ steps_of self.old }
+        requires some { 0 < length points.now }
+        requires span { AreInOneSpan (spans_of self.old) first (length points.now) }
+        ensures stands { (map : Noted) → Stands self.old map → Agree map (line_noted step first points.now) → Stands self.new (union map (line_noted step first points.now)) }
+        ensures same { IsSameFold self.old self.new }
+    {
+        let cell = self.cell(first);
+        for (i, point) in points.iter().enumerate() {
+            self.note_in(cell + i, step, first + i as u64, point);
+        }
+    }
+
+    /// Takes in a point of the place that a cell belongs to, at a step up to the last.
+    fn note_in(&mut self, cell: usize, step: u64, place: u64, point: &Point)
+        requires step { step ≤ steps_of self.old }
+        requires place { is_within (spans_of self.old) place ≡ true }
+        requires cell { cell ≡ cell_in self.old place }
+        requires inside { cell < count_of_cells self.old }
+        ensures stands { (map : Noted) → Stands self.old map → Agree map (only step place (OfPoint point.now)) → Stands self.new (noted map step place (OfPoint point.now)) }
+        ensures cells { AreSameCells self.old self.new }
+    {
+        match point {
+            Point::Good { h, qu, qd, v } => {
+                let sample = Sample {
+                    h: *h,
+                    qu: *qu,
+                    qd: *qd,
+                    v: *v,
+                };
+                self.keep_within(cell, step, &sample);
+            }
+            Point::Bad => self.fail(step, place),
+        }
+    }
+
     fn keep(&mut self, step: u64, place: u64, sample: &Sample)
         requires { is_within (spans_of self.old) place ≡ true }
         ensures stands { (map : Noted) (noting : Noting) → taken (Some noting) ≡ told (Some sample.now) → is_bad_noting (Some noting) ≡ false → Stands self.old map → Agree map (only step place noting) → Stands self.new (noted map step place noting) }
@@ -189,16 +239,26 @@ impl Fold {
         ensures same { IsSameFold self.old self.new }
     {
         if step <= self.steps {
-            self.keep_within(step, place, sample);
+            let cell = self.cell(place);
+            self.keep_within(cell, step, sample);
         }
     }
 
-    fn keep_within(&mut self, step: u64, place: u64, sample: &Sample)
-        requires place { is_within (spans_of self.old) place ≡ true }
-        requires step { step ≤ steps_of self.old }
-        ensures { IsKeptAt self.old self.new step place (record { h = sample.now.h; qu = sample.now.qu; qd = sample.now.qd; v = sample.now.v }) }
+    fn cell(&self, place: u64) -> usize
+        requires { is_within (spans_of self.now) place ≡ true }
+        ensures cell { result ≡ cell_in self.now place }
+        ensures inside { result < count_of_cells self.now }
     {
-        let cell = find_cell(&self.spans, &self.bases, place);
+        find_cell(&self.spans, &self.bases, place)
+    }
+
+    /// Keeps a sample in a cell, and in the line of samples where the cell has one.
+    fn keep_within(&mut self, cell: usize, step: u64, sample: &Sample)
+        requires cell { cell < count_of_cells self.old }
+        requires step { step ≤ steps_of self.old }
+        ensures kept { (place : ℕ) → is_within (spans_of self.old) place ≡ true → cell ≡ cell_in self.old place → IsKeptAt self.old self.new step place (record { h = sample.now.h; qu = sample.now.qu; qd = sample.now.qd; v = sample.now.v }) }
+        ensures layout { IsSameLayout self.old self.new }
+    {
         join_cell(&mut self.cells, cell, &Extreme::of_one(step, sample));
         if let Some(line) = self.marks[cell] {
             keep_sample(&mut self.samples, line, step, self.every, sample);
@@ -209,7 +269,7 @@ impl Fold {
         requires { is_within (spans_of self.old) place ≡ true }
         ensures stands { (map : Noted) (noting : Noting) → taken (Some noting) ≡ None → is_bad_noting (Some noting) ≡ true → Stands self.old map → Agree map (only step place noting) → Stands self.new (noted map step place noting) }
         ensures past { steps_of self.old < step → self.new ≡ self.old }
-        ensures same { IsSameFold self.old self.new }
+        ensures cells { AreSameCells self.old self.new }
     {
         let last = self.steps;
         if step <= last {

@@ -64,6 +64,31 @@ fn note_node(fold: &mut Fold, step: u64, state: &NodeState)
     fold.note_node(step, 1, state);
 }
 
+// The heads of the places 0 and 1, and at place 2 a Bad point.
+fn note_line(fold: &mut Fold, step: u64, heads: [i64; 2])
+    requires { spans_of fold.old ≡ (0, 3) ∷ [] }
+    ensures { IsSameFold fold.old fold.new }
+{
+    let [first, second] = heads;
+    fold.note_line(step, 0, &[good(first), good(second), Point::Bad]);
+}
+
+fn good(h: i64) -> Point {
+    Point::Good {
+        h,
+        qu: 0,
+        qd: 0,
+        v: 0,
+    }
+}
+
+fn extreme_of_three(fold: &Fold, place: u64) -> Extreme
+    requires three { spans_of fold.now ≡ (0, 3) ∷ [] }
+    requires place { place < 3 }
+{
+    fold.extreme(place)
+}
+
 fn sample_of(fold: &Fold, step: u64) -> Option<Sample>
     requires { probes_of fold.now ≡ 1 ∷ [] }
 {
@@ -123,5 +148,29 @@ fn samples_at_multiples_of_every(rt: HostRuntime) -> Result<(), AllocError> {
     for step in [0, 3, 4, 6] {
         assert_eq!(&rt; sample_of(&fold, step), None);
     }
+    Ok(())
+}
+
+// By hand: head 5 of place 0 stands first at step 2, place 1 has 7 at step 3 and 4 at step 2, and what is
+// noted at step 5 lies past the last step.
+#[test]
+fn lines_reach_each_place(rt: HostRuntime) -> Result<(), AllocError> {
+    let mut fold = three_places(rt.alloc())?;
+    note_line(&mut fold, 3, [5, 7]);
+    note_line(&mut fold, 2, [5, 4]);
+    note_line(&mut fold, 5, [9, 9]);
+    let still = extreme_of_three(&fold, 0);
+    assert_eq!(&rt; (still.max, still.max_step, still.min, still.min_step), (5, 2, 5, 2));
+    let moved = extreme_of_three(&fold, 1);
+    assert_eq!(&rt; (moved.max, moved.max_step, moved.min, moved.min_step), (7, 3, 4, 2));
+    assert_eq!(&rt; fold.fault(), Some((2, 2)));
+    let want = Sample {
+        h: 4,
+        qu: 0,
+        qd: 0,
+        v: 0,
+    };
+    assert_eq!(&rt; sample_of(&fold, 2), Some(want));
+    assert_eq!(&rt; sample_of(&fold, 4), None);
     Ok(())
 }

@@ -1,8 +1,8 @@
 -- Maps cut at a place of a step, and the rows of a law as such a map.
-use Rattle.std.specs.Prelude.{◌≡◌, ◌≢◌, ℕ, ◌+◌, ◌<◌, ◌≤◌, ◌⊎◌, true, List, [], ◌∷◌, length, get_or, Option, Some, None, sum_by, take, refl}
+use Rattle.std.specs.Prelude.{◌≡◌, ◌≢◌, ℕ, ◌+◌, ◌-◌, ◌<◌, ◌≤◌, ◌⊎◌, true, List, [], ◌∷◌, length, get_or, Option, Some, None, sum_by, take, refl}
 use Rattle.std.proofs.Common.{inl, inr, ◌∙◌, ap, sym, subst, arith}
 use Rattle.std.proofs.Math.Bool.{and-false}
-use Rattle.std.proofs.lemmas.Bool.{eq-eqb, ne_eqb, lt-ltb, le-ltb}
+use Rattle.std.proofs.lemmas.Bool.{eq-eqb, ne_eqb, lt-ltb, le-ltb, le-leb, lt-leb}
 use Rattle.std.proofs.lemmas.List.{get_or_default, get_or_read, take_all, take_more}
 use Rattle.std.proofs.lemmas.List.Sums.{sum_by-take-le, sum_by_push}
 use Rattle.case_model.specs.declared.cases.ProbeAt.{ProbeAt}
@@ -21,7 +21,7 @@ use Rattle.envelope.specs.Cells.{is_within}
 use Rattle.envelope.specs.CellLaws.{below-first}
 use Rattle.envelope.specs.Extremes.{first_of}
 use Rattle.envelope.specs.Folds.{Stands, spans_of, steps_of, IsSameFold}
-use Rattle.envelope.specs.Notings.{Noting, Noted, nothing, only, noted, Agree}
+use Rattle.envelope.specs.Notings.{Noting, Noted, nothing, only, noted, line_noted, union, Agree}
 use Rattle.envelope.specs.Notings.Noting.{OfPoint, OfNode}
 use Rattle.envelope.specs.Rows.{number_of, IsOn, place_at, noting_at, rows_noted}
 use Rattle.envelope.specs.declared.folds.Fold.{Fold}
@@ -120,8 +120,60 @@ stands-more fold map step place x t e p = t fold (noted (before_place map step p
 pub state-noted : (map : Noted) (step k : ℕ) (own : List NodeState) (d : NodeState) → HasStates step own map → k < length own → map step k ≡ Some (OfNode (get_or own k d))
 state-noted map step k own d h l = h k l ∙ ap (λ x. Some (OfNode x)) (get_or_default own k BadState d l)
 
-pub point-noted : (map : Noted) (step first i : ℕ) (line : List Point) (d : Point) → HasLine step first line map → i < length line → map step (first + i) ≡ Some (OfPoint (get_or line i d))
-point-noted map step first i line d h l = h i l ∙ ap (λ x. Some (OfPoint x)) (get_or_default line i Bad d l)
+-- ---- one line more
+
+line-from : (step first : ℕ) (line : List Point) (s k : ℕ) → s ≡ step → first ≤ k → k < first + length line → line_noted step first line s k ≡ Some (OfPoint (get_or line (k - first) Bad))
+unfolding line_noted
+line-from step first line s k e l h = rw (eq-eqb s step e, le-leb first k l, lt-ltb k (first + length line) h) refl
+
+line-not : (step first : ℕ) (line : List Point) (s k : ℕ) → s ≢ step → line_noted step first line s k ≡ None
+unfolding line_noted
+line-not step first line s k e = rw (ne_eqb s step e) refl
+
+line-not-yet : (step first : ℕ) (line : List Point) (s k : ℕ) → k < first → line_noted step first line s k ≡ None
+unfolding line_noted
+line-not-yet step first line s k h = rw (lt-leb first k h, and-false) refl
+
+line-past : (step first : ℕ) (line : List Point) (s k : ℕ) → first + length line ≤ k → line_noted step first line s k ≡ None
+unfolding line_noted
+line-past step first line s k h = rw (le-ltb k (first + length line) h, and-false) refl
+
+line-not-now : (step first : ℕ) (line : List Point) (s k : ℕ) → IsBefore step first s k → line_noted step first line s k ≡ None
+line-not-now step first line s k (inl h) = line-not step first line s k (λ e. omega arith)
+line-not-now step first line s k (inr h) = line-not-yet step first line s k h.1
+
+line-on : (step first more s k : ℕ) → IsBefore step first s k → IsBefore step (first + more) s k
+line-on step first more s k (inl h) = inl h
+line-on step first more s k (inr h) = inr (h.0, let l : k < first = h.1 in omega arith)
+
+line-then : (map : Noted) (step first : ℕ) (line : List Point) (s k : ℕ) → HasLine step first line map → IsFrom step first s k → line_noted step first line s k ≡ before_place map step (first + length line) s k
+line-then map step first line s k h (inl l) = line-not step first line s k (λ e. omega arith) ∙ sym (dropped map step (first + length line) s k (inl l))
+line-then map step first line s k h (inr l) = elim (below k (first + length line)) [
+  | inl w ↦
+      let low : first ≤ k = l.1 in
+      let j : first + (k - first) ≡ k = omega arith in
+      line-from step first line s k l.0 low w ∙ sym (h (k - first) (omega arith)) ∙ ap (map step) j ∙ ap (λ u. map u k) (sym l.0)
+      ∙ sym (kept map step (first + length line) s k (inr (l.0, w)))
+  | inr w ↦ line-past step first line s k w ∙ sym (dropped map step (first + length line) s k (inr (l.0, w)))
+]
+
+line-more : (map : Noted) (step first : ℕ) (line : List Point) (s k : ℕ) → HasLine step first line map → union (before_place map step first) (line_noted step first line) s k ≡ before_place map step (first + length line) s k
+line-more map step first line s k h = elim (either-way step first s k) [
+  | inl b ↦
+      alone (before_place map step first s k) (line_noted step first line s k) (line-not-now step first line s k b)
+      ∙ kept map step first s k b ∙ sym (kept map step (first + length line) s k (line-on step first (length line) s k b))
+  | inr b ↦ ap (λ a. first_of a (line_noted step first line s k)) (dropped map step first s k b) ∙ line-then map step first line s k h b
+]
+
+pub line-agrees : (map : Noted) (step first : ℕ) (line : List Point) → Agree (before_place map step first) (line_noted step first line)
+line-agrees map step first line = λ s k a b p q. elim (either-way step first s k) [
+  | inl h ↦ let n = line-not-now step first line s k h in cc
+  | inr h ↦ let n = dropped map step first s k h in cc
+]
+
+pub stands-line : (fold : Fold) (map : Noted) (step first : ℕ) (line : List Point) → StandsForEqual → HasLine step first line map → Stands fold (union (before_place map step first) (line_noted step first line)) → Stands fold (before_place map step (first + length line))
+stands-line fold map step first line t h p =
+    t fold (union (before_place map step first) (line_noted step first line)) (before_place map step (first + length line)) (λ s k l w. line-more map step first line s k h) p
 
 -- ---- whole rows
 

@@ -1,6 +1,6 @@
-ghost use Rattle.std.specs.Prelude.{◌≡◌, ℕ, ◌+◌, ◌^◌, ◌<◌, true, [], ◌∷◌, length};
+ghost use Rattle.std.specs.Prelude.{◌≡◌, ℕ, ◌+◌, ◌<◌, true, [], ◌∷◌, length};
 ghost use Rattle.case_model.specs.Mesh.{IsNumbered};
-ghost use Rattle.envelope.specs.Cells.{is_within};
+ghost use Rattle.envelope.specs.Cells.{is_within, AreInOneSpan};
 ghost use Rattle.envelope.specs.Folds.{spans_of, Stands, IsSameFold};
 ghost use Rattle.envelope.specs.Notings.{Noted};
 ghost use Rattle.row_steps.specs.Noting.{before_place, HasStates, HasLine, HasLines};
@@ -18,7 +18,6 @@ pub(crate) fn note_row(
     fold: &mut Fold,
 )
     requires numbered { IsNumbered mesh.now }
-    requires few { mesh.now.places < 2 ^ 64 }
     requires spans { spans_of fold.old ≡ (0, mesh.now.places) ∷ [] }
     requires own { length own.now ≡ length mesh.now.ends }
     requires lines { HasPlaces mesh.now lines.now }
@@ -44,7 +43,6 @@ fn note_states(step: u64, own: &[NodeState], fold: &mut Fold)
 /// Notes the points of all pipes, after the states of all nodes.
 fn note_lines(mesh: &Mesh, step: u64, lines: &[List<Point>], fold: &mut Fold)
     requires numbered { IsNumbered mesh.now }
-    requires few { mesh.now.places < 2 ^ 64 }
     requires spans { spans_of fold.old ≡ (0, mesh.now.places) ∷ [] }
     requires lines { HasPlaces mesh.now lines.now }
     ensures stands { (map : Noted) → HasLines mesh.now step lines.now map → Stands fold.old (before_place map step (length mesh.now.ends)) → Stands fold.new (before_place map (step + 1) 0) }
@@ -58,13 +56,10 @@ fn note_lines(mesh: &Mesh, step: u64, lines: &[List<Point>], fold: &mut Fold)
 
 /// Notes the points of one pipe, of which the first has the place number `first`.
 fn note_line(step: u64, first: u64, line: &[Point], fold: &mut Fold)
-    requires few { first + length line.now < 2 ^ 64 }
-    requires inside { (k : ℕ) → k < first + length line.now → is_within (spans_of fold.old) k ≡ true }
+    requires span { AreInOneSpan (spans_of fold.old) first (length line.now) }
     ensures stands { (map : Noted) → HasLine step first line.now map → Stands fold.old (before_place map step first) → Stands fold.new (before_place map step (first + length line.now)) }
     ensures same { IsSameFold fold.old fold.new }
 {
     stands_for_equal_maps();
-    for (i, point) in line.iter().enumerate() {
-        fold.note(step, first + i as u64, point);
-    }
+    fold.note_line(step, first, line);
 }

@@ -1,30 +1,22 @@
 use Rattle.std.proofs.Common.{List, ◌≡◌, ◌∙◌, ◌+◌, ◌<◌, length, get_or, ap, subst, sym, arith}
 use Rattle.case_model.specs.declared.meshes.PipeMesh.{PipeMesh}
 use Rattle.case_model.specs.Mesh.{no_pipe, base_of, places_before}
-use Rattle.envelope.specs.CellLaws.{within-first}
+use Rattle.envelope.specs.CellLaws.{in-first}
 use Rattle.envelope.specs.Folds.{Stands, spans_of}
 use Rattle.row_steps.specs.Noting.{before_place, HasLine}
-use Rattle.row_steps.proofs.Cut.{row-same, same-on, same-inside, line-at, line-end, line-fits, below-places}
+use Rattle.row_steps.proofs.Cut.{row-same, same-on, line-at, line-end, line-fits, below-places}
 use Rattle.row_steps.proofs.noting.note_lines.Goals as goal
 
-pub note_line-requires-clause-few : goal.note_line-requires-clause-few
-note_line-requires-clause-few c =
-    let mesh = c.args.mesh.now in
-    let p = c.loop-pipe.pipe in
-    let b : p < length mesh.pipes = omega (arith, ap length c.as_slice-shape-items.ensures) in
-    let base = ap (λ (ps : List PipeMesh). (get_or ps p no_pipe).base) c.as_slice-shape-items.ensures in
-    let line = line-at mesh c.args.lines.now p c.as_slice.result.now c.index-lines-pipe.result c.requires.lines b c.as_slice.ensures c.index-lines-pipe.is in
-    omega (arith, base, line.1, line-fits mesh p c.requires.numbered b)
-
-pub note_line-requires-clause-inside : goal.note_line-requires-clause-inside
-note_line-requires-clause-inside c = λ k h.
-    let mesh = c.args.mesh.now in
-    let p = c.loop-pipe.pipe in
-    let b : p < length mesh.pipes = omega (arith, ap length c.as_slice-shape-items.ensures) in
-    let base = ap (λ (ps : List PipeMesh). (get_or ps p no_pipe).base) c.as_slice-shape-items.ensures in
-    let line = line-at mesh c.args.lines.now p c.as_slice.result.now c.index-lines-pipe.result c.requires.lines b c.as_slice.ensures c.index-lines-pipe.is in
-    same-inside c.args.fold.now c.loop-pipe.fold k c.loop-pipe.invariant.same
-    (within-first (spans_of c.args.fold.now) mesh.places k c.requires.spans (omega (arith, base, line.1, line-fits mesh p c.requires.numbered b)))
+pub note_line-requires : goal.note_line-requires
+note_line-requires c = record {
+  span =
+      let mesh = c.args.mesh.now in
+      let p = c.loop-pipe.pipe in
+      let b : p < length mesh.pipes = omega (arith, ap length c.as_slice-shape-items.ensures) in
+      let base = ap (λ (ps : List PipeMesh). (get_or ps p no_pipe).base) c.as_slice-shape-items.ensures in
+      let line = line-at mesh c.args.lines.now p c.as_slice.result.now c.index-lines-pipe.result c.requires.lines b c.as_slice.ensures c.index-lines-pipe.is in
+      in-first (spans_of c.loop-pipe.fold) mesh.places _ (length c.as_slice.result.now) (c.loop-pipe.invariant.same.spans_are ∙ c.requires.spans) (omega (arith, base, line.1, line-fits mesh p c.requires.numbered b));
+}
 
 pub loop-pipe-preserved : goal.loop-pipe-preserved
 loop-pipe-preserved c =
