@@ -160,9 +160,15 @@ fn lines_reach_each_place(rt: HostRuntime) -> Result<(), AllocError> {
     note_line(&mut fold, 2, [5, 4]);
     note_line(&mut fold, 5, [9, 9]);
     let still = extreme_of_three(&fold, 0);
-    assert_eq!(&rt; (still.max, still.max_step, still.min, still.min_step), (5, 2, 5, 2));
+    assert_eq!(&rt;
+        (still.max, still.max_step, still.min, still.min_step),
+        (5, 2, 5, 2)
+    );
     let moved = extreme_of_three(&fold, 1);
-    assert_eq!(&rt; (moved.max, moved.max_step, moved.min, moved.min_step), (7, 3, 4, 2));
+    assert_eq!(&rt;
+        (moved.max, moved.max_step, moved.min, moved.min_step),
+        (7, 3, 4, 2)
+    );
     assert_eq!(&rt; fold.fault(), Some((2, 2)));
     let want = Sample {
         h: 4,
