@@ -1,3 +1,4 @@
+pub mod Accepted
 pub mod Division
 pub mod Ends
 pub mod FaultLaws
@@ -11,12 +12,14 @@ pub mod NameFields
 pub mod Padding
 pub mod Parts
 pub mod PlaceLaws
+pub mod PlaceNumbers
 pub mod Places
 pub mod Range
 pub mod RangeLaws
 pub mod Refusals
 pub mod RowLaws
 pub mod Rows
+pub mod Runs
 pub mod Samples
 pub mod Search
 pub mod SearchLaws

@@ -1,6 +1,8 @@
 -- What a case is whose numbers, counts, tables and references are within the limits of the case text.
-use Rattle.std.specs.Prelude.{◌≡◌, ◌<◌, ◌≤◌, ◌+◌, ℕ, ℤ, pos, neg_ℤ, ◌≤ℤ◌, ◌<ℤ◌, ◌+ℤ◌, unsigned_abs, List, length, slice_index_or, All}
+use Rattle.std.specs.Prelude.{◌≡◌, ◌<◌, ◌≤◌, ◌+◌, ◌⊎◌, ℕ, ℤ, pos, neg_ℤ, ◌≤ℤ◌, ◌<ℤ◌, ◌+ℤ◌, unsigned_abs, List, length, slice_index_or, All}
 use Rattle.case_model.specs.declared.cases.Case.{Case}
+use Rattle.case_model.specs.declared.cases.Friction.{Friction}
+use Rattle.case_model.specs.declared.cases.Friction.TheVariants.{Explicit}
 use Rattle.case_model.specs.declared.cases.Table.{Table}
 use Rattle.case_model.specs.declared.cases.TableKind.{TableKind}
 use Rattle.case_model.specs.declared.cases.TableKind.TheVariants.{Heads, Flows, Openings, Speeds, Curve, Gas}
@@ -136,7 +138,17 @@ abbrev pub IsSpot : ℕ → ℕ → ProbeAt → Type 0
 IsSpot pipes nodes (OnPipe pipe place) = (pipe < pipes) × (place ≤ 65_536)
 IsSpot pipes nodes (OnNode node) = node < nodes
 
+-- a version of the case text
+abbrev pub IsVersion : ℕ → Type 0
+IsVersion v = (v ≡ 1) ⊎ (v ≡ 2)
+
+-- version 1 has explicit friction alone
+abbrev pub AllowsFriction : ℕ → Friction → Type 0
+AllowsFriction version friction = version ≡ 1 → friction ≡ Explicit
+
 pub record IsRead (case : Case) : Type 0 where
+  pub version : IsVersion case.version
+  pub friction : AllowsFriction case.version case.friction
   pub dt : IsWithin (pos 1) (pos 1_000_000) case.dt
   pub some_steps : 1 ≤ case.steps
   pub few_steps : case.steps ≤ 100_000_000

@@ -31,18 +31,22 @@ is_through (a ∷ []) = false
 is_through (a ∷ b ∷ []) = if a.at_last then not b.at_last else b.at_last
 is_through (a ∷ b ∷ c ∷ ends) = false
 
-abbrev pub is_joined : List End → Bool
-is_joined ends = nat_le 1 (length ends) && nat_le (length ends) 8
+-- the most ends of a node, by the version of the case text
+abbrev pub most_ends : ℕ → ℕ
+most_ends version = if version == 1 then 8 else 16
 
--- whether the ends at a node suit its kind
-unfoldable pub ends_suit : NodeKind → List End → Bool
-ends_suit (Reservoir head) ends = is_joined ends
-ends_suit (Junction demand start) ends = is_joined ends
-ends_suit (Discharge q0 h0 outlet opening start) ends = length ends == 1
-ends_suit (Inline q0 h0 opening start start2) ends = is_through ends
-ends_suit (Pump curve speed start start2) ends = is_through ends
-ends_suit (Tank area start) ends = is_joined ends
-ends_suit (Vessel gas volume) ends = is_joined ends
+abbrev pub is_joined : ℕ → List End → Bool
+is_joined most ends = nat_le 1 (length ends) && nat_le (length ends) most
+
+-- whether the ends at a node suit its kind, of which it may have so many
+unfoldable pub ends_suit : ℕ → NodeKind → List End → Bool
+ends_suit most (Reservoir head) ends = is_joined most ends
+ends_suit most (Junction demand start) ends = is_joined most ends
+ends_suit most (Discharge q0 h0 outlet opening start) ends = length ends == 1
+ends_suit most (Inline q0 h0 opening start start2) ends = is_through ends
+ends_suit most (Pump curve speed start start2) ends = is_through ends
+ends_suit most (Tank area start) ends = is_joined most ends
+ends_suit most (Vessel gas volume) ends = is_joined most ends
 
 -- whether b*q0^2 is over 2*h0*10^24, at a valve with this flow and loss
 unfoldable pub is_over : ℤ → ℤ → ℤ → Bool
@@ -75,7 +79,7 @@ exceeds case (Vessel gas volume) ends = is_outside (table_at case gas).points vo
 -- the rules that a node breaks: 11 its ends, 15 a number of it
 unfoldable pub breaks_node : Case → Node → List End → ℕ → Bool
 breaks_node case n ends number =
-    ((number == 11) && not (ends_suit n.kind ends)) || ((number == 15) && exceeds case n.kind ends)
+    ((number == 11) && not (ends_suit (most_ends case.version) n.kind ends)) || ((number == 15) && exceeds case n.kind ends)
 
 -- whether a probe is off the mesh, judged where its pipe is not refused
 unfoldable pub is_off : Case → ProbeAt → Bool

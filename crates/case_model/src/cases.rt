@@ -1,8 +1,11 @@
+//! A case: what its text says, as plain types.
 use crate::{List, Name};
 
 /// A case: what its text says, in file order, with names resolved and defaults filled in.
 #[derive(Drop, Debug)]
 pub struct Case {
+    /// Version of the case text, 1 or 2.
+    pub version: u8,
     /// Time step, in 1e-6 s.
     pub dt: i64,
     /// Count of steps to compute.
@@ -15,6 +18,8 @@ pub struct Case {
     pub tolerance: i64,
     /// Probes are sampled at the steps that are multiples of this.
     pub every: u64,
+    /// How friction is taken; explicitly in version 1.
+    pub friction: Friction,
     /// Tables in file order.
     pub tables: List<Table>,
     /// Nodes in file order.
@@ -23,6 +28,15 @@ pub struct Case {
     pub pipes: List<Pipe>,
     /// Probes and watches in file order.
     pub probes: List<Probe>,
+}
+
+/// How the friction of a reach enters its characteristics.
+#[derive(Clone, Copy, Debug, PartialEq, Eq)]
+pub enum Friction {
+    /// As a loss of head, by the flow at the point that the characteristic leaves.
+    Explicit,
+    /// As an impedance of the characteristic's own, by that flow.
+    Linear,
 }
 
 /// A table of pairs, first numbers rising or falling as its kind asks.

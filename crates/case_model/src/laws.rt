@@ -1,7 +1,9 @@
-ghost use Rattle.std.specs.Prelude.{◌≡◌, ℕ, ◌<◌, ◌≤◌, length, All};
+//! What the engine knows of hydraulics: a law, as a trait.
+ghost use Rattle.std.specs.Prelude.{◌≡◌, ℕ, ◌+◌, ◌^◌, ◌<◌, ◌≤◌, length, All};
 ghost use Rattle.case_model.specs.Meaning.{Meaning, IsMeaning};
 ghost use Rattle.case_model.specs.Mesh.{reaches, ends_of};
 ghost use Rattle.case_model.specs.Range.{IsPoint, IsState};
+ghost use Rattle.case_model.specs.Runs.{run_of};
 
 use crate::{NodeState, Point};
 
@@ -20,6 +22,29 @@ pub trait Law: Sync {
         requires own_in { IsPoint own.now }
         requires right_in { IsPoint right.now }
         ensures { result ≡ (meaning self.now).inner pipe place left.now own.now right.now };
+
+    /// The points of a run of inner places of a pipe, from place `first` on, of the points one step
+    /// earlier: `before` has the point beside the first place, those of the run, and the point beside
+    /// the last.
+    fn inner_run(&self, pipe: u32, first: u32, before: &[Point], now: &mut [Point])
+        requires on_mesh { pipe < length (meaning self.now).mesh.pipes }
+        requires after_first { 0 < first }
+        requires before_last { first + length now.old ≤ reaches (meaning self.now).mesh pipe }
+        requires fits { first + length now.old < 2 ^ 32 }
+        requires each { length before.now ≡ length now.old + 2 }
+        requires before_in { All IsPoint before.now }
+        ensures { now.new ≡ run_of (meaning self.now) pipe first before.now (length now.old) }
+    {
+        for (k, point) in now.iter_mut().enumerate() {
+            *point = self.inner(
+                pipe,
+                first + k as u32,
+                &before[k],
+                &before[k + 1],
+                &before[k + 2],
+            );
+        }
+    }
 
     /// The state of a node at `step`, of its own state and the points beside it on its pipes
     /// (`near`) one step earlier. `ends` receives the point of each end.

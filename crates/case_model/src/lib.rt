@@ -3,6 +3,7 @@
 #![tactic(auto)]
 
 mod cases;
+mod fault;
 mod faults;
 mod laws;
 mod lists;
@@ -16,19 +17,17 @@ mod rows;
 mod states;
 mod words;
 
-pub use cases::{Case, Node, NodeKind, Pipe, Probe, ProbeAt, Table, TableKind, Value};
+pub use cases::{Case, Friction, Node, NodeKind, Pipe, Probe, ProbeAt, Table, TableKind, Value};
+pub use fault::CaseFault;
 pub use faults::first_fault_is_least;
 pub use laws::Law;
 pub use lists::List;
 pub use meshes::{Arrival, CavityRule, End, Mesh, PipeMesh, Through};
 pub use names::Name;
-pub use places::places_are_numbered;
+pub use places::{place_number, places_are_numbered};
 pub use points::Point;
 pub use ranges::{good_is_in_range, point_of, state_of};
 pub use refusals::refusals_are_least;
 pub use rows::rows_follow_the_law;
 pub use states::NodeState;
 pub use words::{from_words, to_words, words_tell_the_point};
-
-#[cfg(test)]
-mod tests;

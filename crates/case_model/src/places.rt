@@ -1,8 +1,27 @@
+//! Places and their numbers.
 ghost use Rattle.std.specs.Prelude.{◌≡◌, ℕ, ◌+◌, ◌<◌, ◌≤◌, false, length, slice_index_or};
 ghost use Rattle.case_model.specs.Meaning.{Meaning};
 ghost use Rattle.case_model.specs.Mesh.{reaches, base_of, IsNumbered};
+ghost use Rattle.case_model.specs.PlaceNumbers.{number_of, IsOn};
 ghost use Rattle.case_model.specs.Places.{is_bad, is_bad_state, bad_places};
 ghost use Rattle.case_model.specs.Rows.{row};
+
+use crate::{Mesh, ProbeAt};
+
+/// The number of a place: a node's index, or the place's count from the first of its pipe.
+pub fn place_number(mesh: &Mesh, at: ProbeAt) -> u64
+    requires on { IsOn mesh.now at }
+    requires numbered { IsNumbered mesh.now }
+    requires few { mesh.now.places ≤ 400_000 }
+    ensures { result ≡ number_of mesh.now at }
+{
+    match at {
+        ProbeAt::OnPipe { pipe, place } => {
+            mesh.pipes.as_slice()[pipe as usize].base + place as u64
+        }
+        ProbeAt::OnNode { node } => node as u64,
+    }
+}
 
 /// The law of place numbers: node k is place k, place i of a pipe is its base plus i, and there are
 /// no other places.

@@ -7,7 +7,7 @@ ghost use Rattle.case_rules.specs.Tallies.{one_if as one_where, nothing as nothi
 
 use crate::parts::{is_single, said};
 use case_lines::{Directive, cut_line, field, fields_of};
-use reaches::CaseFault;
+use case_model::CaseFault;
 use std::alloc::{AllocError, Global};
 
 /// How many parts of each sort lines have, and whether they have the directives without a default.

@@ -6,7 +6,7 @@ ghost use Rattle.case_rules.specs.Among.{line_rules};
 use crate::judging::judge;
 use crate::names::{add_definition, add_single, all_names};
 use case_lines::{cut_line, fields_of};
-use reaches::CaseFault;
+use case_model::CaseFault;
 use std::alloc::{AllocError, Global};
 use std::collections::HashSet;
 

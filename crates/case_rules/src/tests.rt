@@ -1,5 +1,5 @@
 use crate::{judge_counts, judge_lines, next_line};
-use reaches::CaseFault;
+use case_model::CaseFault;
 use std::test::Fail;
 
 // A text, and the least rule that its lines break with its line. A name of 33 bytes that is used is

@@ -9,12 +9,12 @@ use Rattle.case_model.specs.Refusals.{passes}
 use Rattle.case_model.specs.Sets.{IsEmpty, AreEmpty, IsFirst}
 use Rattle.case_model.specs.Search.{Refusal}
 use Rattle.case_model.specs.SearchLaws.{FirstOrNone, first_is, first_found, first_none}
-use Rattle.reaches.specs.declared.division.CaseFault.{CaseFault}
-use Rattle.reaches.specs.declared.division.CaseFault.TheVariants.{Refused, Memory}
+use Rattle.case_model.specs.declared.fault.CaseFault.{CaseFault}
+use Rattle.case_model.specs.declared.fault.CaseFault.TheVariants.{Refused, Memory}
 use Rattle.case_rules.specs.Said.{lines_of}
 use Rattle.case_rules.specs.Among.{line_rules}
 use Rattle.case_rules.specs.Counts.{count_rules}
-use Rattle.netfile.specs.Accepted.{IsAccepted}
+use Rattle.case_model.specs.Accepted.{IsAccepted}
 use Rattle.netfile.specs.Built.{case_of}
 use Rattle.netfile.specs.Verdict.{all_passes, rule_numbers, refusal_of, judged, too_long, verdict, refusal_in}
 use Rattle.netfile.proofs.Bounds.{rising, all_bounded}

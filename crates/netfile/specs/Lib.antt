@@ -1,4 +1,3 @@
-pub mod Accepted
 pub mod Built
 pub mod Indices
 pub mod Named

@@ -7,8 +7,8 @@ use Rattle.case_model.specs.Sets.{Rules}
 use Rattle.case_model.specs.Search.{Refusal, first_of}
 use Rattle.case_model.specs.Division.{mesh_of}
 use Rattle.case_model.specs.Refusals.{passes}
-use Rattle.reaches.specs.declared.division.CaseFault.{CaseFault}
-use Rattle.reaches.specs.declared.division.CaseFault.TheVariants.{Refused, Memory}
+use Rattle.case_model.specs.declared.fault.CaseFault.{CaseFault}
+use Rattle.case_model.specs.declared.fault.CaseFault.TheVariants.{Refused, Memory}
 use Rattle.case_rules.specs.Said.{lines_of}
 use Rattle.case_rules.specs.Among.{line_rules}
 use Rattle.case_rules.specs.Counts.{count_rules}

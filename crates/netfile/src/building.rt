@@ -11,7 +11,7 @@ use crate::probes::probes;
 use crate::singles::single_amount;
 use crate::tables::tables;
 use case_lines::Quantity;
-use case_model::{Case, List, Node, Pipe, Probe, Table};
+use case_model::{Case, Friction, List, Node, Pipe, Probe, Table};
 use std::alloc::{AllocError, Global};
 
 /// The case that a text says. Fails only for want of memory.
@@ -33,12 +33,14 @@ pub(crate) fn case_of(alloc: Global, bytes: &[u8]) -> Result<Case, AllocError>
     let pipes = pipes_between(alloc, bytes, &nodes)?;
     let probes = probes_at(alloc, bytes, &pipes, &nodes)?;
     Ok(Case {
+        version: 1,
         dt,
         steps: steps.unsigned_abs(),
         vapour,
         weight,
         tolerance,
         every: every.unsigned_abs(),
+        friction: Friction::Explicit,
         tables: List::over(tables),
         nodes: List::over(nodes),
         pipes: List::over(pipes),

@@ -1,5 +1,5 @@
 ghost use Rattle.std.specs.Prelude.{◌≡◌, Ok, Err, IfOk, IfErr, IfSome};
-ghost use Rattle.netfile.specs.Accepted.{IsAccepted};
+ghost use Rattle.case_model.specs.Accepted.{IsAccepted};
 ghost use Rattle.netfile.specs.Verdict.{verdict, refusal_in};
 
 use crate::building::case_of;

@@ -1,6 +1,6 @@
 use crate::read_case;
 use case_model::{End, Name, Node, NodeKind, Pipe, PipeMesh, Probe, ProbeAt, Table, Value};
-use reaches::CaseFault;
+use case_model::CaseFault;
 
 // A reservoir by a table that stands behind it, and a pipe to a junction that stands behind the pipe.
 const TEXT: &[u8] =

@@ -1,3 +1,4 @@
+//! Courant division of a case: its mesh, or its first refusal.
 ghost use Rattle.std.specs.Prelude.{◌≡◌, ◌*◌, ◌+◌, ◌/◌, ◌≤◌, ℕ, Err, IfOk, length};
 ghost use Rattle.case_model.specs.Mesh.{IsMesh, IsNumbered};
 ghost use Rattle.case_model.specs.Limits.{IsRead};
@@ -12,20 +13,8 @@ use crate::nodes::nodes_refusal;
 use crate::pipes::pipes_refusal;
 use crate::probes::probes_refusal;
 use crate::refusal::{Refusal, lesser};
-use case_model::{Case, End, List, Mesh};
-use std::alloc::{AllocError, Global};
-use thiserror::Error;
-
-/// Why a case isn't divided.
-#[derive(Clone, Copy, Debug, PartialEq, Eq, Error)]
-pub enum CaseFault {
-    /// The least rule that is broken, by line and then by number.
-    #[error("refused {number} line {line}")]
-    Refused { number: u8, line: u32 },
-    /// Want of memory.
-    #[error("out of memory")]
-    Memory,
-}
+use case_model::{Case, CaseFault, End, List, Mesh};
+use std::alloc::Global;
 
 /// The mesh of a case: its pipes in reaches of one time step, with wave speeds adjusted within the
 /// tolerance. `Refused` is the first refusal of the division. Takes memory for the mesh alone.
@@ -39,18 +28,14 @@ pub fn divide(alloc: Global, case: &Case) -> Result<Mesh, CaseFault>
     ensures numbered { IfOk result (λ mesh. IsNumbered mesh) }
     ensures refused { (number line : ℕ) → result ≡ Err (CaseFault.Refused number line) → IsFirst (passes case.now) line number }
 {
-    let Ok(ends) = all_ends(alloc, case) else {
-        return Err(CaseFault::Memory);
-    };
+    let ends = all_ends(alloc, case)?;
     if let Some(refusal) = parts_refusal(case, &ends) {
         return Err(CaseFault::Refused {
             number: refusal.number,
             line: refusal.line,
         });
     }
-    let Ok((pipes, places)) = pipe_meshes(alloc, case) else {
-        return Err(CaseFault::Memory);
-    };
+    let (pipes, places) = pipe_meshes(alloc, case)?;
     if is_too_large(case, places) {
         return Err(CaseFault::Refused {
             number: 10,

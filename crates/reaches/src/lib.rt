@@ -14,9 +14,6 @@ mod refusal;
 mod tested;
 mod valves;
 
-pub use division::{CaseFault, divide};
+pub use division::divide;
 pub use elevations::elevation;
 pub use formulas::coefficients;
-
-#[cfg(test)]
-mod tests;

@@ -1,9 +1,10 @@
+//! The rules of division that a node breaks by itself.
 ghost use Rattle.std.specs.Prelude.{◌≡◌, ◌≤◌, ◌<◌, length};
 ghost use Rattle.case_model.specs.Limits.{IsNode, IsRead};
 ghost use Rattle.case_model.specs.Division.{node_ends, AreEnds};
 ghost use Rattle.case_model.specs.Sets.{FindsLeast, any_below};
 ghost use Rattle.reaches.specs.Told.{Tells};
-ghost use Rattle.case_model.specs.Refusals.{breaks_node, node_rules, ends_suit, is_joined as is_joined_of, is_through as is_through_of};
+ghost use Rattle.case_model.specs.Refusals.{breaks_node, node_rules, ends_suit, is_joined as is_joined_of, most_ends as most_ends_of, is_through as is_through_of};
 
 use crate::refusal::{Refusal, lesser, on};
 use crate::valves::exceeds;
@@ -43,7 +44,7 @@ fn judge(case: &Case, node: &Node, ends: &[End]) -> Option<u8>
     requires node { IsNode case.now.tables node.now }
     ensures { FindsLeast (breaks_node case.now node.now ends.now) result }
 {
-    if !suits(&node.kind, ends) {
+    if !suits(most_ends(case.version), &node.kind, ends) {
         return Some(11);
     }
     if exceeds(case, &node.kind, ends) {
@@ -52,25 +53,34 @@ fn judge(case: &Case, node: &Node, ends: &[End]) -> Option<u8>
     None
 }
 
+// The most ends of a node, by the version of the case text.
+fn most_ends(version: u8) -> usize
+    ensures { result ≡ most_ends_of version }
+{
+    if version == 1 { 8 } else { 16 }
+}
+
+// Whether these ends suit a node of this kind, which may have `most` where pipes meet.
 #[tactic(auto, unfolding(case_model::specs::Refusals::ends_suit))]
-pub(crate) fn suits(kind: &NodeKind, ends: &[End]) -> bool
-    ensures { result ≡ ends_suit kind.now ends.now }
+fn suits(most: usize, kind: &NodeKind, ends: &[End]) -> bool
+    ensures { result ≡ ends_suit most kind.now ends.now }
 {
     match kind {
-        NodeKind::Reservoir { .. } => is_joined(ends),
-        NodeKind::Junction { .. } => is_joined(ends),
+        NodeKind::Reservoir { .. } => is_joined(most, ends),
+        NodeKind::Junction { .. } => is_joined(most, ends),
         NodeKind::Discharge { .. } => ends.len() == 1,
         NodeKind::Inline { .. } => is_through(ends),
         NodeKind::Pump { .. } => is_through(ends),
-        NodeKind::Tank { .. } => is_joined(ends),
-        NodeKind::Vessel { .. } => is_joined(ends),
+        NodeKind::Tank { .. } => is_joined(most, ends),
+        NodeKind::Vessel { .. } => is_joined(most, ends),
     }
 }
 
-fn is_joined(ends: &[End]) -> bool
-    ensures { result ≡ is_joined_of ends.now }
+// Whether there is an end, and no more than `most`.
+fn is_joined(most: usize, ends: &[End]) -> bool
+    ensures { result ≡ is_joined_of most ends.now }
 {
-    1 <= ends.len() && ends.len() <= 8
+    1 <= ends.len() && ends.len() <= most
 }
 
 /// Whether there are just a last end and a first end.

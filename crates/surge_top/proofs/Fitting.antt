@@ -18,7 +18,7 @@ use Rattle.case_model.specs.Parts.{no_probe, probe_at}
 use Rattle.case_model.specs.Refusals.{part_rules, pipe_rules, node_rules, probe_rules, is_off, size_rules, sample_count, is_too_large}
 use Rattle.case_model.specs.Sets.{Rules, IsEmpty, either, any_below}
 use Rattle.envelope.specs.Rows.{IsOn}
-use Rattle.netfile.specs.Accepted.{IsAccepted}
+use Rattle.case_model.specs.Accepted.{IsAccepted}
 use Rattle.reaches.proofs.Whole.{all_divided}
 use Rattle.surge_top.specs.Sizes.{IsSmall}
 

@@ -4,7 +4,7 @@ use Rattle.std.specs.Prelude.{unsigned_abs}
 use Rattle.std.proofs.lemmas.Int.{ints}
 use Rattle.case_model.specs.declared.cases.Case.{Case}
 use Rattle.case_model.specs.declared.meshes.Mesh.{Mesh}
-use Rattle.netfile.specs.Accepted.{IsAccepted}
+use Rattle.case_model.specs.Accepted.{IsAccepted}
 use Rattle.regions.specs.Cuts.{IsLimited}
 use Rattle.regions.specs.declared.shapes.Layout.{Layout}
 use Rattle.report.specs.MeshText.{IsMeshed}

@@ -21,7 +21,7 @@ use Rattle.envelope.specs.RowFolds.{HasRows, IsFoldOfCase, probe_numbers}
 use Rattle.envelope.specs.Rows.{number_of, IsOn, rows_noted, extreme_at}
 use Rattle.envelope.specs.declared.extremes.Extreme.{Extreme}
 use Rattle.envelope.specs.declared.folds.Fold.{Fold}
-use Rattle.netfile.specs.Accepted.{IsAccepted}
+use Rattle.case_model.specs.Accepted.{IsAccepted}
 use Rattle.report.specs.Report.{report_text}
 use Rattle.report.specs.Reportable.{IsReportable}
 use Rattle.surge_top.specs.Sizes.{IsSmall}

@@ -10,7 +10,7 @@ ghost use Rattle.envelope.specs.Rows.{IsOn};
 ghost use Rattle.scheme.specs.Laws.{meaning_of};
 ghost use Rattle.surge_io.specs.Bytes.{Appends, AppendsFront};
 ghost use Rattle.surge_io.specs.Faults.{Rose};
-ghost use Rattle.netfile.specs.Accepted.{IsAccepted};
+ghost use Rattle.case_model.specs.Accepted.{IsAccepted};
 ghost use Rattle.surge_top.specs.Answer.{computed};
 ghost use Rattle.surge_top.specs.Sizes.{IsSmall};
 ghost use Rattle.surge_top.specs.Status.{number_of, IsAnswered};

@@ -2,7 +2,7 @@
 ghost use Rattle.std.specs.Prelude.{◌≡◌, ◌≤◌, ◌≢◌, length};
 ghost use Rattle.surge_io.specs.Bytes.{Appends, AppendsFront};
 ghost use Rattle.surge_io.specs.Faults.{Rose};
-ghost use Rattle.netfile.specs.Accepted.{IsAccepted};
+ghost use Rattle.case_model.specs.Accepted.{IsAccepted};
 ghost use Rattle.regions.specs.Cuts.{IsLimited};
 ghost use Rattle.regions.specs.declared.shapes.Layout.{Layout as LayoutSeen};
 ghost use Rattle.report.specs.MeshText.{IsMeshed};

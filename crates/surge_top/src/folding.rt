@@ -7,7 +7,7 @@ ghost use Rattle.envelope.specs.Folds.{IsFoldOf, Stands};
 ghost use Rattle.envelope.specs.Notings.{nothing};
 ghost use Rattle.envelope.specs.RowFolds.{probe_numbers as numbers_of};
 ghost use Rattle.envelope.specs.Rows.{IsOn, number_of, rows_noted};
-ghost use Rattle.netfile.specs.Accepted.{IsAccepted};
+ghost use Rattle.case_model.specs.Accepted.{IsAccepted};
 ghost use Rattle.scheme.specs.Laws.{meaning_of};
 ghost use Rattle.surge_io.specs.Bytes.{Appends, AppendsFront};
 ghost use Rattle.surge_io.specs.Faults.{Rose};

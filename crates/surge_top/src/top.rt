@@ -2,7 +2,7 @@ ghost use Rattle.std.specs.Prelude.{◌≡◌, ◌⊎◌, ◌<◌, ◌≤◌, �
 ghost use Rattle.surge_io.specs.Bytes.{Appends, AppendsFront, IsReading, HasRead};
 ghost use Rattle.surge_io.specs.Faults.{Rose};
 ghost use Rattle.command_words.specs.CommandLine.{IsJob};
-ghost use Rattle.netfile.specs.Accepted.{IsAccepted};
+ghost use Rattle.case_model.specs.Accepted.{IsAccepted};
 ghost use Rattle.netfile.specs.Verdict.{verdict};
 ghost use Rattle.surge_top.specs.Answer.{answer, answer_to, answer_case as answer_of, reads, are_read};
 ghost use Rattle.surge_top.specs.Status.{number_of, IsAnswered};

@@ -5,7 +5,7 @@ use Rattle.case_model.specs.Division.{mesh_of}
 use Rattle.case_model.specs.Refusals.{passes}
 use Rattle.case_model.specs.Limits.{IsRead}
 use Rattle.case_rules.specs.Said.{lines_of}
-use Rattle.netfile.specs.Accepted.{IsAccepted}
+use Rattle.case_model.specs.Accepted.{IsAccepted}
 use Rattle.netfile.specs.Built.{case_of}
 use Rattle.netfile.proofs.Naming.{all_named, all_placed}
 use Rattle.netfile.proofs.Readable.{is_read}

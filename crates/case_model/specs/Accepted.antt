@@ -1,4 +1,5 @@
--- What an accepted case and its mesh fulfil: numbers within their limits, and a mesh in which rows can be computed.
+-- What an accepted case and its mesh fulfil: numbers within their limits, and the mesh of a division that refuses
+-- nothing, in which rows can be computed.
 use Rattle.std.specs.Prelude.{◌≡◌, ◌<◌, length}
 use Rattle.case_model.specs.declared.cases.Case.{Case}
 use Rattle.case_model.specs.declared.meshes.Mesh.{Mesh}
@@ -15,3 +16,8 @@ pub record IsAccepted (case : Case) (mesh : Mesh) : Type 0 where
   pub good : IsMesh mesh
   pub numbered : IsNumbered mesh
   pub some : 0 < length case.pipes
+
+-- a mesh that is that of some case which division accepts
+pub record IsAcceptedMesh (mesh : Mesh) : Type 0 where
+  pub case : Case
+  pub accepted : IsAccepted case mesh
