@@ -1,0 +1,3 @@
+//! The worked rows: tables of calls and of whole cases whose answers were worked out by hand or by another
+//! program. It has tests alone, so that the crates below are proved once.
+#![tactic(auto)]
