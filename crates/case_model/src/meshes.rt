@@ -1,4 +1,8 @@
+//! The plain types of a mesh.
 use crate::List;
+
+/// The most ends of a node, in any version of the case text.
+pub const MOST_ENDS: usize = 16;
 
 /// The division of one pipe into reaches.
 #[derive(Clone, Copy, Debug, PartialEq, Eq)]
