@@ -1,3 +1,4 @@
+//! The mesh of a case, and what is handed over at its places.
 use crate::List;
 
 /// The division of one pipe into reaches.
