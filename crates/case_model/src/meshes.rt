@@ -1,4 +1,4 @@
-//! The plain types of a mesh.
+//! The mesh of a case, and what is handed over at its places.
 use crate::List;
 
 /// The most ends of a node, in any version of the case text.
