@@ -1,6 +1,6 @@
 -- The rule of a history, which holds between any two steps of any threads.
--- K is the count of slots. A sum stands on the side where it needs no minus sign: published <= c + K
--- for c >= published - K.
+-- K is the count of slots. A sum stands on the side where it needs no minus sign, as
+-- published <= c + K for c >= published - K.
 use Rattle.std.specs.Prelude.{◌≡◌, ℕ, ◌+◌, ◌<◌, ◌≤◌, List, [], length, replicate, slice_index}
 use mathlib.Core.Option.{some}
 use lib.ListN.{get_elem?}
