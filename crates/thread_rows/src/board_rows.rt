@@ -1,7 +1,8 @@
+//! A claim board call by call, and four workers in threads of their own.
 ghost use Rattle.std.specs.Prelude.{◌≡◌, ◌==◌, ℕ, ◌<◌, ◌≤◌, IfOk, IfSome, length, slice_index_or};
 ghost use Rattle.claimboard.specs.Views.{IsReady};
 
-use crate::{Board, BoardSeat, Claim, Done, Item};
+use claimboard::{Board, BoardSeat, Claim, Done, Item};
 use std::alloc::{AllocError, Global};
 use std::test::Fail;
 use std::thread;
@@ -84,8 +85,11 @@ fn four_workers_share_the_items(rt: HostRuntime) -> Result<(), Fail> {
         &rt,
         seats,
         &|seat: BoardSeat<Tally>| -> Option<Done<Tally>>
-            requires { IsReady shared.now.table.shared.table_id shared.now.table.shared.key.value seat.seat × (shared.now.table.shared.table_id.slots ≡ 1000) }
-            ensures { IfSome result (λ d. d.seat.table_id ≡ shared.entry.now.table.shared.table_id) }
+            requires seat { IsReady shared.now.table.shared.table_id
+                shared.now.table.shared.key.value seat.seat }
+            requires items { shared.now.table.shared.table_id.slots ≡ 1000 }
+            ensures { IfSome result (λ d. d.seat.table_id
+                ≡ shared.entry.now.table.shared.table_id) }
         { work(shared, seat) },
     )?;
     let Some(Some(done)) = found.pop() else {
@@ -101,7 +105,8 @@ fn four_workers_share_the_items(rt: HostRuntime) -> Result<(), Fail> {
 
 /// Goes over the items until all are finished.
 fn work(board: &Board<Tally>, mut seat: BoardSeat<Tally>) -> Option<Done<Tally>>
-    requires seat { IsReady board.now.table.shared.table_id board.now.table.shared.key.value seat.seat }
+    requires seat { IsReady board.now.table.shared.table_id
+        board.now.table.shared.key.value seat.seat }
     requires items { board.now.table.shared.table_id.slots ≡ 1000 }
     ensures { IfSome result (λ d. d.seat.table_id ≡ board.now.table.shared.table_id) }
 {
@@ -116,9 +121,11 @@ fn work(board: &Board<Tally>, mut seat: BoardSeat<Tally>) -> Option<Done<Tally>>
 
 /// One claim of each item.
 fn go_over(board: &Board<Tally>, seat: &mut BoardSeat<Tally>)
-    requires seat { IsReady board.now.table.shared.table_id board.now.table.shared.key.value seat.old.seat }
+    requires seat { IsReady board.now.table.shared.table_id
+        board.now.table.shared.key.value seat.old.seat }
     requires items { board.now.table.shared.table_id.slots ≡ 1000 }
-    ensures { IsReady board.now.table.shared.table_id board.now.table.shared.key.value seat.new.seat }
+    ensures { IsReady board.now.table.shared.table_id
+        board.now.table.shared.key.value seat.new.seat }
 {
     for place in 0..ITEMS {
         advance(board, seat, place);
@@ -127,9 +134,11 @@ fn go_over(board: &Board<Tally>, seat: &mut BoardSeat<Tally>)
 
 /// Where the claim gives the item, it is advanced by a burst, and given back or finished.
 fn advance(board: &Board<Tally>, seat: &mut BoardSeat<Tally>, number: u32)
-    requires seat { IsReady board.now.table.shared.table_id board.now.table.shared.key.value seat.old.seat }
+    requires seat { IsReady board.now.table.shared.table_id
+        board.now.table.shared.key.value seat.old.seat }
     requires on_board { number < board.now.table.shared.table_id.slots }
-    ensures { IsReady board.now.table.shared.table_id board.now.table.shared.key.value seat.new.seat }
+    ensures { IsReady board.now.table.shared.table_id
+        board.now.table.shared.key.value seat.new.seat }
 {
     let Claim::Held(mut item) = board.claim(seat, number) else {
         return;
@@ -157,7 +166,8 @@ fn burst(item: &mut Tally)
 
 /// Items with the numbers 0, 1 and so on, none of which was advanced.
 fn tallies(alloc: Global, count: u32) -> Result<Vec<Tally>, AllocError>
-    ensures { IfOk result (λ v. (length v.items ≡ count) × ((i : ℕ) (d : Tally) → i < length v.items → slice_index_or v.items i d ≡ record { place = i; count = 0 })) }
+    ensures { IfOk result (λ v. (length v.items ≡ count) × ((i : ℕ) (d : Tally)
+        → i < length v.items → slice_index_or v.items i d ≡ record { place = i; count = 0 })) }
 {
     let mut items = Vec::with_capacity(alloc, count as usize)?;
     for place in 0..count {

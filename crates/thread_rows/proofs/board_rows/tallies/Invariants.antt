@@ -1,6 +1,6 @@
 use Rattle.std.proofs.Common.{◌≡◌, ℕ, ◌<◌, ◌≤◌, length, slice_index_or, vec_capacity}
-use Rattle.claimboard.specs.declared.tests.Tally.{Tally}
-use Rattle.claimboard.proofs.tests.tallies.Given as goal
+use Rattle.thread_rows.specs.declared.board_rows.Tally.{Tally}
+use Rattle.thread_rows.proofs.board_rows.tallies.Given as goal
 
 abbrev pub invariant-loop-place : goal.invariant-loop-place
 invariant-loop-place l = record {
