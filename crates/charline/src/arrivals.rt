@@ -83,8 +83,8 @@ pub(crate) fn explicit_plus(b: i64, r: i128, from: &Point) -> Option<i64>
     ensures size { IfSome result (λ c. unsigned_abs c ≤ 10_000_000_000_000) }
 {
     match from {
-        Point::Good { h, qd, .. } => {
-            in_reach(less(*h + impedance_head(b, *qd), friction_head(r, *qd)))
+        Point::Good { h, qd: q, .. } => {
+            in_reach(less(*h + impedance_head(b, *q), friction_head(r, *q)))
         }
         Point::Bad => None,
     }
@@ -100,8 +100,8 @@ pub(crate) fn explicit_minus(b: i64, r: i128, from: &Point) -> Option<i64>
     ensures size { IfSome result (λ c. unsigned_abs c ≤ 10_000_000_000_000) }
 {
     match from {
-        Point::Good { h, qu, .. } => {
-            in_reach(more(*h - impedance_head(b, *qu), friction_head(r, *qu)))
+        Point::Good { h, qu: q, .. } => {
+            in_reach(more(*h - impedance_head(b, *q), friction_head(r, *q)))
         }
         Point::Bad => None,
     }

@@ -1,5 +1,16 @@
 //! The interior law with the discrete vapour cavity, for each kind of friction.
-ghost use Rattle.std.specs.Prelude.{◌≡◌, ◌≤◌, ◌-ℤ◌, pos, ◌+ℤ◌, unsigned_abs, IfSome};
+ghost use Rattle.std.specs.Prelude.{
+  ◌≡◌,
+  ◌+◌,
+  ◌*◌,
+  ◌≤◌,
+  pos,
+  ◌+ℤ◌,
+  ◌*ℤ◌,
+  ◌≤ℤ◌,
+  unsigned_abs,
+  IfSome,
+};
 ghost use Rattle.std.specs.Int.{int_max};
 ghost use Rattle.fixed_num.specs.Rounding.{rnd as rounded};
 ghost use Rattle.case_model.specs.declared.cases.Friction.TheVariants.{
@@ -155,12 +166,7 @@ fn explicit_if(rule: &CavityRule, b: i64, plus: Option<i64>, minus: Option<i64>,
     }
 }
 
-fn linear_if(
-    rule: &CavityRule,
-    plus: Option<Arrival>,
-    minus: Option<Arrival>,
-    old: &Old,
-) -> Point
+fn linear_if(rule: &CavityRule, plus: Option<Arrival>, minus: Option<Arrival>, old: &Old) -> Point
     requires rule { IsRule rule.now }
     requires plus_in { IfSome plus IsArrival }
     requires minus_in { IfSome minus IsArrival }
@@ -201,13 +207,7 @@ fn linear_meet(rule: &CavityRule, plus: &Arrival, minus: &Arrival, old: &Old) ->
     with_cavity(rule, plus, minus, head, old)
 }
 
-fn with_cavity(
-    rule: &CavityRule,
-    plus: &Arrival,
-    minus: &Arrival,
-    head: i64,
-    old: &Old,
-) -> Point
+fn with_cavity(rule: &CavityRule, plus: &Arrival, minus: &Arrival, head: i64, old: &Old) -> Point
     requires rule { IsRule rule.now }
     requires plus_in { IsArrival plus.now }
     requires minus_in { IsArrival minus.now }
@@ -278,7 +278,11 @@ fn meeting_head(plus: &Arrival, minus: &Arrival) -> i64
     requires minus_in { IsArrival minus.now }
     ensures { result ≡ head_of plus.now minus.now }
 {
-    mean(weighted(plus.c, minus.b), weighted(minus.c, plus.b), plus.b + minus.b)
+    mean(
+        weighted(plus.c, minus.b),
+        weighted(minus.c, plus.b),
+        plus.b + minus.b,
+    )
 }
 
 fn mean(one: i128, two: i128, weight: i64) -> i64
