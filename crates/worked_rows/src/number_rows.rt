@@ -1,4 +1,6 @@
-use super::{NumberFault, interp, read_decimal, rnd, root, write_decimal};
+//! Rows of numbers: rounding, roots, tables, decimals, and the words and ranges of points.
+use case_model::{NodeState, Point, from_words, point_of, state_of, to_words};
+use fixed_num::{NumberFault, interp, read_decimal, rnd, root, write_decimal};
 
 // By hand: 2.5, -2.5, 2, a third, -0.5, and what the two paths give on both sides of 2^64.
 #[test]
@@ -75,4 +77,51 @@ fn writes_numbers(rt: HostRuntime) {
         let length = write_decimal(value, places, &mut text);
         assert_eq!(rt; &text[..length], want);
     }
+}
+
+#[test]
+fn words_of_points(rt: HostRuntime) {
+    let good = Point::Good {
+        h: -100_000_000_000,
+        qu: 1_000_000_000_000,
+        qd: -2,
+        v: 1_000_000_000_000_000,
+    };
+    let words = [
+        9_900_000_000_000,
+        11_000_000_000_000,
+        9_999_999_999_998,
+        1_000_000_000_000_000,
+    ];
+    assert_eq!(rt; to_words(&good), words);
+    let cold = Point::Good {
+        h: -10_100_000,
+        qu: -8,
+        qd: 8,
+        v: 2,
+    };
+    let cold_words = [9_999_989_900_000, 9_999_999_999_992, 10_000_000_000_008, 2];
+    assert_eq!(rt; to_words(&cold), cold_words);
+    assert_eq!(rt; from_words(&cold_words), Some(cold));
+    assert_eq!(rt; to_words(&Point::Bad), [0; 4]);
+    assert_eq!(rt; from_words(&words), Some(good));
+    assert_eq!(rt; from_words(&[0; 4]), Some(Point::Bad));
+    assert_eq!(rt;
+        from_words(&[9_899_999_999_999, 11_000_000_000_000, 0, 0]),
+        None
+    );
+    assert_eq!(rt; from_words(&[u64::MAX; 4]), None);
+}
+
+#[test]
+fn numbers_at_the_limits(rt: HostRuntime) {
+    assert_eq!(rt; point_of(100_000_000_001, 0, 0, 0), Point::Bad);
+    assert_eq!(rt; point_of(0, 0, 0, -1), Point::Bad);
+    let most = NodeState::Good {
+        h: 0,
+        v: 0,
+        g: -10_000_000_000_000_000,
+    };
+    assert_eq!(rt; state_of(0, 0, -10_000_000_000_000_000), most);
+    assert_eq!(rt; state_of(0, 1_000_000_000_000_001, 0), NodeState::Bad);
 }
