@@ -1,5 +1,5 @@
 -- The net of a layout, and the lists that hold it.
-use Rattle.std.specs.Prelude.{◌≡◌, ℕ, ◌<◌, ◌^◌, Bool, false, List, [], length, slice_index_or}
+use Rattle.std.specs.Prelude.{◌≡◌, ℕ, ◌<◌, Bool, false, List, [], length, slice_index_or}
 use Rattle.case_model.specs.declared.meshes.Mesh.{Mesh}
 use Rattle.regions.specs.declared.shapes.Layout.{Layout}
 use Rattle.regions.specs.Sides.{is_section, sides_of, side_of, back_of}
@@ -34,8 +34,3 @@ pub record AreLinked (layout : Layout) (mesh : Mesh) (count : ℕ) (links : List
 pub record AreKinds (layout : Layout) (count : ℕ) (kinds : List Bool) : Type 0 where
   pub each : length kinds ≡ count
   pub kind : (x : ℕ) → x < count → slice_index_or kinds x false ≡ is_section layout x
-
--- a layout whose strands and windows can be counted
-pub record IsCountable (layout : Layout) : Type 0 where
-  pub strands : length layout.shapes < 2 ^ 32
-  pub windows : layout.windows < 2 ^ 62

@@ -1,5 +1,6 @@
 -- Strands and their sides, and the blocks that their regions need and write.
-use Rattle.std.specs.Prelude.{◌≡◌, ℕ, ◌+◌, ◌-◌, ◌<◌, ◌≤◌, min, nat_lt, if◌then◌else◌, Bool, true, false, Option, Some, None, zero, suc}
+use Rattle.std.specs.Prelude.{◌≡◌, ℕ, ◌+◌, ◌-◌, ◌<◌, ◌≤◌, min, nat_lt, if◌then◌else◌, Bool, true, false, Option, Some, None}
+use Rattle.regions.specs.Needs.{needs_of}
 
 -- strands by number, each a section or a station; the neighbour of a strand at an index of its
 -- sides; and `back`, the index of the strand among that neighbour's sides. There are `windows` blocks
@@ -47,11 +48,6 @@ pub record HasRegion (net : Net) (x m : ℕ) : Type 0 where
   pub number : m < region_count net x
 
 -- the block of each side that a region needs: of a section the one before its own number
-abbrev pub needs_of : Bool → ℕ → Option ℕ
-needs_of false m = Some m
-needs_of true zero = None
-needs_of true (suc m) = Some m
-
 abbrev pub needs : Net → ℕ → ℕ → Option ℕ
 needs net x m = needs_of (net.is_section x) m
 

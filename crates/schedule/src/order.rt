@@ -1,3 +1,4 @@
+//! The order of regions.
 ghost use Rattle.std.specs.Prelude.{◌≡◌, ◌+◌, ◌*◌, ◌/◌, ◌<◌, ◌≤◌, ◌↔◌, IsTrue, MatchOption, IfSome};
 ghost use Rattle.schedule.specs.Countings.{net_in, state_in};
 ghost use Rattle.schedule.specs.Order.{turn_count, AreLeftOf, AreLeftBefore, IsUnleft, IsPlaced};
