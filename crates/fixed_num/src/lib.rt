@@ -13,6 +13,3 @@ pub use rounding::rnd;
 pub use roots::{root, root_is_greatest};
 pub use tables::interp;
 pub use written::write_decimal;
-
-#[cfg(test)]
-mod tests;
