@@ -5,7 +5,7 @@ use Rattle.std.proofs.lemmas.Bool.Decides.{nat_tests}
 use Rattle.std.proofs.lemmas.Int.{ints}
 use Rattle.std.proofs.lemmas.Nat.{mul-le}
 use Rattle.fixed_num.specs.Tables.{IsRoot}
-use Rattle.valves.specs.Roots.{root_or_next, nat_root, root}
+use Rattle.fixed_num.specs.Roots.{root_or_next, nat_root, root}
 
 record IsNatRoot (n r : ℕ) : Type 0 where
   below : r * r ≤ n
@@ -23,7 +23,7 @@ pub root-is : (n : ℤ) → pos 0 ≤ℤ n → IsRoot n (root n)
 unfolding root
 root-is n h = let r = nat_root-is (unsigned_abs n) in record { low = omega (arith, ints); below = r.below; above = r.above }
 
-no_less : (n x y : ℕ) → x * x ≤ n → n < (y + 1) * (y + 1) → x ≤ y
+pub no_less : (n x y : ℕ) → x * x ≤ n → n < (y + 1) * (y + 1) → x ≤ y
 no_less n x y h k =
     ⊎_elim (λ over. let f : (y + 1) * (y + 1) ≤ x * x = mul-le (y + 1) (y + 1) x x (omega arith) (omega arith) in absurd (omega arith)) (λ within. within) (cases_lt y x)
 
@@ -35,6 +35,3 @@ root-only n (pos x) h low below above =
     let high = no_less (unsigned_abs n) (nat_root (unsigned_abs n)) x r.below above in
     let e : x ≡ nat_root (unsigned_abs n) = omega arith in ap pos e
 root-only n (negsuc x) h low below above = absurd (omega (arith, ints))
-
-pub root-most : (n x : ℤ) → unsigned_abs n ≤ 10000000000000000000000000000000000 → unsigned_abs x * unsigned_abs x ≤ unsigned_abs n → unsigned_abs x ≤ 100000000000000000
-root-most n x h below = no_less (unsigned_abs n) (unsigned_abs x) 100000000000000000 below (omega arith)
