@@ -4,6 +4,7 @@ pub mod Ends
 pub mod FaultLaws
 pub mod FirstFault
 pub mod Formulas
+pub mod Kept
 pub mod Lending
 pub mod Limits
 pub mod Meaning

@@ -1,3 +1,4 @@
+//! The law of the first fault.
 ghost use Rattle.std.specs.Prelude.{◌≡◌, ℕ, ◌≤◌, Some, None};
 ghost use Rattle.case_model.specs.FirstFault.{first_fault, IsFirstFault};
 ghost use Rattle.case_model.specs.Meaning.{Meaning};

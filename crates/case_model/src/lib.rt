@@ -2,6 +2,7 @@
 //! hydraulic law as a trait, and the mesh row by row over any law.
 #![tactic(auto)]
 
+mod accepted;
 mod cases;
 mod fault;
 mod faults;
@@ -17,12 +18,13 @@ mod rows;
 mod states;
 mod words;
 
+pub use accepted::accepted_cases_are_kept;
 pub use cases::{Case, Friction, Node, NodeKind, Pipe, Probe, ProbeAt, Table, TableKind, Value};
 pub use fault::CaseFault;
 pub use faults::first_fault_is_least;
 pub use laws::Law;
 pub use lists::List;
-pub use meshes::{Arrival, CavityRule, End, Mesh, PipeMesh, Through};
+pub use meshes::{Arrival, CavityRule, End, MOST_ENDS, Mesh, PipeMesh, Through};
 pub use names::Name;
 pub use places::{place_number, places_are_numbered};
 pub use points::Point;

@@ -1,3 +1,4 @@
+//! Lists, which contracts see as their items.
 ghost use Rattle.std.specs.Prelude.{◌≡◌};
 
 use std::marker::Model;

@@ -1,4 +1,8 @@
+//! The mesh of a case, and what is handed over at its places.
 use crate::List;
+
+/// The most ends of a node, in any version of the case text.
+pub const MOST_ENDS: usize = 16;
 
 /// The division of one pipe into reaches.
 #[derive(Clone, Copy, Debug, PartialEq, Eq)]

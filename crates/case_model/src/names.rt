@@ -1,3 +1,4 @@
+//! Names of nodes, pipes and tables.
 ghost use Rattle.std.specs.Prelude.{◌≡◌, ◌≤◌, length};
 
 use std::marker::Model;

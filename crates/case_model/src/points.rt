@@ -1,3 +1,4 @@
+//! What a place of the mesh has at a step.
 /// The state of one place of a pipe at one step. Good where all its numbers are in range
 /// (`IsPoint`), else Bad.
 #[derive(Clone, Copy, Debug, PartialEq, Eq)]

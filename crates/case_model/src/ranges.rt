@@ -1,3 +1,4 @@
+//! The range rule of points and states.
 ghost use Rattle.std.specs.Prelude.{◌≡◌, ℤ};
 ghost use Rattle.case_model.specs.declared.points.Point.TheVariants.{Good as GoodPoint, Bad as BadPoint};
 ghost use Rattle.case_model.specs.declared.states.NodeState.TheVariants.{Good as GoodState, Bad as BadState};

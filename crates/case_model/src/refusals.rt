@@ -1,3 +1,4 @@
+//! The law of refusals.
 ghost use Rattle.std.specs.Prelude.{◌≡◌, ℕ, List, Option, Some, None};
 ghost use Rattle.std.specs.List.{range_with_len};
 ghost use Rattle.case_model.specs.Sets.{Rules, AreEmpty, IsFirst};

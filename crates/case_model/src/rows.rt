@@ -1,3 +1,4 @@
+//! The laws of the mesh row by row.
 ghost use Rattle.std.specs.Prelude.{◌≡◌, ℕ, ◌+◌, ◌-◌, ◌<◌, true, false, All};
 ghost use Rattle.case_model.specs.Meaning.{Meaning, IsMeaning};
 ghost use Rattle.case_model.specs.Mesh.{reaches};

@@ -1,3 +1,4 @@
+//! What a node has at a step.
 /// The state of one node at one step. Good where all its numbers are in range
 /// (`IsState`), else Bad.
 #[derive(Clone, Copy, Debug, PartialEq, Eq)]

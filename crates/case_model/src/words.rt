@@ -1,3 +1,4 @@
+//! Points as words.
 ghost use Rattle.std.specs.Prelude.{◌≡◌, ◌≢◌, ◌↔◌, [], ◌∷◌, Some, None, IfSome};
 ghost use Rattle.case_model.specs.declared.points.Point.{Point};
 ghost use Rattle.case_model.specs.Range.{IsPoint};

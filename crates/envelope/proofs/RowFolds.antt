@@ -30,7 +30,8 @@ use Rattle.envelope.specs.Folds.{Stands, spans_of, probes_of, steps_of, every_of
 use Rattle.envelope.specs.Kept.{extreme_kept, sample_kept}
 use Rattle.envelope.specs.Notings.{Noted, column, taken, is_bad_noting}
 use Rattle.envelope.specs.RowFolds.{HasRows, IsFoldOfCase}
-use Rattle.envelope.specs.Rows.{number_of, IsOn, place_at, noting_at, rows_noted, extreme_at}
+use Rattle.case_model.specs.PlaceNumbers.{number_of, IsOn, place_at}
+use Rattle.envelope.specs.Rows.{noting_at, rows_noted, extreme_at}
 use Rattle.envelope.specs.declared.extremes.Extreme.{Extreme}
 use Rattle.envelope.specs.declared.folds.Fold.{Fold}
 use Rattle.envelope.proofs.Joined.{same-extreme}

@@ -14,7 +14,8 @@ ghost use Rattle.envelope.specs.Folds.{Stands, spans_of, steps_of};
 ghost use Rattle.envelope.specs.Kept.{extreme_kept, sample_kept};
 ghost use Rattle.envelope.specs.Notings.{Noted};
 ghost use Rattle.envelope.specs.RowFolds.{HasRows, IsFoldOfCase};
-ghost use Rattle.envelope.specs.Rows.{number_of, IsOn, place_at, rows_noted, extreme_at};
+ghost use Rattle.case_model.specs.PlaceNumbers.{number_of, IsOn, place_at};
+ghost use Rattle.envelope.specs.Rows.{rows_noted, extreme_at};
 ghost use Rattle.envelope.specs.declared.extremes.Extreme.{Extreme};
 ghost use Rattle.envelope.specs.declared.folds.Fold.{Fold};
 

@@ -1,3 +1,4 @@
+//! Numbers as decimal text: reading.
 ghost use Rattle.std.specs.Prelude.{◌≡◌, ◌+◌, ◌-◌, ◌*◌, ◌^◌, ◌<◌, ◌≤◌, ◌&&◌, min, ℤ, pos, neg_ℤ, unsigned_abs, length, IfOk};
 ghost use Rattle.std.specs.Char.{is_ascii_digit};
 ghost use Rattle.std.specs.List.{fold, list_all, position_or_len};

@@ -11,6 +11,3 @@ pub use decimal::{NumberFault, read_decimal};
 pub use rounding::rnd;
 pub use tables::{interp, root};
 pub use written::write_decimal;
-
-#[cfg(test)]
-mod tests;

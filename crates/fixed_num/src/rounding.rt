@@ -1,3 +1,4 @@
+//! Rounding of quotients to the nearest whole number.
 ghost use Rattle.std.specs.Prelude.{◌≡◌, ◌+◌, ◌*◌, ◌<◌, ◌≤◌, ℤ, pos, ◌<ℤ◌, unsigned_abs};
 ghost use Rattle.fixed_num.specs.Rounding.{half_up, rnd as rounded, IsNearest};
 

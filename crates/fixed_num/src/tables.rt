@@ -1,3 +1,4 @@
+//! Values between the points of a table, and integer roots.
 ghost use Rattle.std.specs.Prelude.{
   ◌≡◌,
   ◌+◌,

@@ -1,3 +1,4 @@
+//! Numbers as decimal text: writing.
 ghost use Rattle.std.specs.Prelude.{◌≡◌, ◌+◌, ◌/◌, ◌≤◌, ◌<◌, ◌^◌, ◌++◌, length, take, drop, unsigned_abs, Ok};
 ghost use Rattle.std.specs.Fmt.{decimal};
 ghost use Rattle.fixed_num.specs.Written.{last_digits, written, placed, sign, fraction_text};

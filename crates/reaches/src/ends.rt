@@ -1,3 +1,4 @@
+//! The pipe ends at each node.
 ghost use Rattle.std.specs.Prelude.{◌≡◌, ◌++◌, ◌∷◌, [], ◌<◌, ◌≤◌, false, true, IfOk, length, replicate};
 ghost use Rattle.case_model.specs.Limits.{IsRead};
 ghost use Rattle.case_model.specs.Division.{AreEnds};

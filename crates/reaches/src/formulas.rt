@@ -1,3 +1,4 @@
+//! The coefficients of a pipe in reaches.
 ghost use Rattle.std.specs.Prelude.{◌≡◌, ◌+◌, ◌*◌, ◌<◌, ◌≤◌, ◌≤ℤ◌, ℤ, pos};
 ghost use Rattle.case_model.specs.Limits.{IsPipe, IsWithin};
 ghost use Rattle.case_model.specs.Formulas.{area as area_of, nearest_reaches as nearest_of, impedance as impedance_of, resistance as resistance_of, cut, reach_count as count_of, b_of, r_of};

@@ -1,3 +1,4 @@
+//! The rules of division that a pipe breaks by itself.
 ghost use Rattle.std.specs.Prelude.{◌≡◌, ◌≤◌, ◌<◌, length, pos};
 ghost use Rattle.case_model.specs.Limits.{IsPipe, IsRead, IsWithin};
 ghost use Rattle.case_model.specs.Sets.{FindsLeast, any_below};

@@ -1,3 +1,4 @@
+//! The least of the broken rules.
 ghost use Rattle.std.specs.Prelude.{◌≡◌, ℕ, Bool, Option};
 ghost use Rattle.case_model.specs.Sets.{Rules, FindsLeast, on_line, either};
 ghost use Rattle.reaches.specs.Told.{Tells};

@@ -1,3 +1,4 @@
+//! The numbers of a node that are judged by its ends: those of valves, and the volume of a vessel.
 ghost use Rattle.std.specs.Prelude.{◌≡◌, ◌+ℤ◌, ◌*◌, ◌≤◌, ◌<◌, length, pos, true};
 ghost use Rattle.case_model.specs.Limits.{IsKind, IsRead, IsValve, IsWithin, entry_at};
 ghost use Rattle.case_model.specs.Parts.{table_at};

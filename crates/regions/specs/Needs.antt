@@ -1,7 +1,9 @@
 -- What the laws of a region's points read, and where it lies.
-use Rattle.std.specs.Prelude.{◌≡◌, ℕ, zero, suc, ◌+◌, ◌<◌, ◌≤◌, Bool, true, false, Option, Some, None, length}
+use Rattle.std.specs.Prelude.{◌≡◌, ℕ, zero, suc, ◌+◌, ◌<◌, ◌≤◌, ◌==◌, if◌then◌else◌, Bool, true, false, Option, Some, None, length}
 use Rattle.case_model.specs.declared.meshes.Mesh.{Mesh}
-use Rattle.case_model.specs.Mesh.{reaches, ends_of, next_to}
+use Rattle.case_model.specs.Meaning.{Meaning}
+use Rattle.case_model.specs.Mesh.{reaches, ends_of, next_to, end_node}
+use Rattle.case_model.specs.Rows.{Row, next}
 use Rattle.regions.specs.declared.shapes.Layout.{Layout}
 use Rattle.regions.specs.declared.shapes.Spot.{Spot}
 use Rattle.regions.specs.declared.shapes.Spot.TheVariants.{AtNode, Inside}
@@ -22,6 +24,27 @@ Reads mesh (Inside p i) (Inside q j) = (q ≡ p) × (0 < i) × (i < reaches mesh
 Reads mesh (Inside p i) (AtNode k) = ⊥
 Reads mesh (AtNode k) (AtNode l) = k ≡ l
 Reads mesh (AtNode k) (Inside q j) = (c : ℕ) × (c < length (ends_of mesh k)) × ((end_at mesh k c).pipe ≡ q) × (next_to mesh (end_at mesh k c) ≡ j)
+
+-- the spot that is computed together with this one: of a pipe's end the node where the pipe ends
+abbrev pub home_of : Mesh → Spot → Spot
+home_of mesh (AtNode k) = AtNode k
+home_of mesh (Inside p i) =
+    if i == 0 then AtNode (end_node mesh p false)
+    else if i == reaches mesh p then AtNode (end_node mesh p true)
+    else Inside p i
+
+-- two rows agree at a spot: at a node on its state, at a place on its point
+abbrev pub AgreeAt : Row → Row → Spot → Type 0
+AgreeAt one other (AtNode k) = one.state k ≡ other.state k
+AgreeAt one other (Inside p i) = (one.point p i) ≡ (other.point p i)
+
+-- two rows agree on all that is read for a spot
+abbrev pub AgreeOnReads : Mesh → Row → Row → Spot → Type 0
+AgreeOnReads mesh one other spot = (near : Spot) → Reads mesh (home_of mesh spot) near → AgreeAt one other near
+
+-- the rows that a law makes of them for step s agree at it
+abbrev pub AgreeAfter : Meaning → ℕ → Row → Row → Spot → Type 0
+AgreeAfter law s one other spot = AgreeAt (next law s one) (next law s other) spot
 
 -- where what a point of region m of strand x reads lies: at step 0, in this or an earlier region of the strand,
 -- or in the block that the region needs of a side

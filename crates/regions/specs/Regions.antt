@@ -3,6 +3,7 @@ use Rattle.std.specs.Prelude.{◌≡◌, ℕ, zero, suc, ◌+◌, ◌-◌, ◌*�
 use Rattle.std.specs.List.{position_or_len, range_with_len}
 use Rattle.case_model.specs.declared.meshes.Mesh.{Mesh}
 use Rattle.case_model.specs.Mesh.{reaches, end_node}
+use Rattle.regions.specs.declared.shapes.TheConstants.{WIDEST_WINDOW}
 use Rattle.regions.specs.declared.parts.Part.{Part}
 use Rattle.regions.specs.declared.parts.Part.TheVariants.{Own, Left, Right}
 use Rattle.regions.specs.declared.shapes.Layout.{Layout}
@@ -126,7 +127,7 @@ IsLong w (OfSection pipe place count left right) = (w ≤ count) × (place + cou
 
 pub record IsWhole (layout : Layout) : Type 0 where
   pub some : 1 ≤ layout.window
-  pub few : layout.window ≤ 64
+  pub few : layout.window ≤ WIDEST_WINDOW
   pub windows : layout.windows ≤ 100_000_000
   pub strands : length layout.shapes ≤ 1_000_000
   pub long : (y : ℕ) → y < length layout.shapes → IsLong layout.window (shape_at layout y)

@@ -1,6 +1,8 @@
+//! How pipes are cut into sections, and time into windows.
 ghost use Rattle.std.specs.Prelude.{◌≡◌, ◌+◌, ◌<◌, ◌≤◌};
 ghost use Rattle.regions.specs.Cuts.{IsWindow, window_of, windows_of, cut, sections as sections_are, section_reaches as reaches_are};
 
+use crate::WIDEST_WINDOW;
 use case_model::Mesh;
 
 /// How many steps a window has: the least of the wish and the counts of reaches of all pipes.
@@ -20,7 +22,7 @@ pub(crate) fn window(mesh: &Mesh, wish: u64) -> u64
 #[tactic(auto, unfolding(crate::specs::Cuts::windows_of))]
 pub(crate) fn windows(window: u64, steps: u64) -> u64
     requires some { 0 < window }
-    requires few { window ≤ 64 }
+    requires few { window ≤ WIDEST_WINDOW }
     requires steps { steps ≤ 100_000_000 }
     ensures { result ≡ windows_of window steps }
 {

@@ -1,3 +1,4 @@
+//! The numbers of strands.
 ghost use Rattle.std.specs.Prelude.{◌≡◌, ◌+◌, ◌<◌, ◌≤◌, length};
 ghost use Rattle.case_model.specs.Mesh.{IsMesh};
 ghost use Rattle.regions.specs.Cuts.{IsLimited};

@@ -1,6 +1,8 @@
+//! The neighbours of strands.
 ghost use Rattle.std.specs.Prelude.{◌≡◌, ◌<◌, ◌==◌, if◌then◌else◌, length};
-ghost use Rattle.case_model.specs.Mesh.{IsMesh, ends_of as ends_are};
+ghost use Rattle.case_model.specs.Mesh.{ends_of as ends_are};
 ghost use Rattle.regions.specs.Cuts.{IsLimited};
+ghost use Rattle.regions.specs.LaidOut.{IsLaidOut};
 ghost use Rattle.regions.specs.Sides.{no_end, end_at as end_is, section_at_end as section_is, shape_at as shape_is, side_of_station as side_is, sides_of, side_of, back_of};
 
 use crate::cuts::sections;
@@ -14,7 +16,7 @@ impl Layout {
     #[tactic(auto, unfolding(crate::specs::Sides::sides_of))]
     pub fn sides(&self, mesh: &Mesh, strand: u32) -> u32
         requires inside { strand < length self.now.shapes }
-        requires limits { IsLimited mesh.now }
+        requires laid_out { IsLaidOut self.now mesh.now }
         ensures { result ≡ sides_of self.now mesh.now strand }
     {
         match self.shape_at(strand) {
@@ -30,8 +32,7 @@ impl Layout {
     pub fn side(&self, mesh: &Mesh, strand: u32, index: u32) -> u32
         requires inside { strand < length self.now.shapes }
         requires index { index < sides_of self.now mesh.now strand }
-        requires mesh { IsMesh mesh.now }
-        requires limits { IsLimited mesh.now }
+        requires laid_out { IsLaidOut self.now mesh.now }
         ensures { result ≡ side_of self.now mesh.now strand index }
     {
         match self.shape_at(strand) {
@@ -46,8 +47,7 @@ impl Layout {
     pub fn back(&self, mesh: &Mesh, strand: u32, index: u32) -> u32
         requires inside { strand < length self.now.shapes }
         requires index { index < sides_of self.now mesh.now strand }
-        requires mesh { IsMesh mesh.now }
-        requires limits { IsLimited mesh.now }
+        requires laid_out { IsLaidOut self.now mesh.now }
         ensures { result ≡ back_of self.now mesh.now strand index }
     {
         match self.shape_at(strand) {
@@ -91,6 +91,7 @@ impl Layout {
     }
 }
 
+// How many ends a node has.
 fn count_ends(mesh: &Mesh, node: u32) -> u32
     requires { IsLimited mesh.now }
     ensures { result ≡ length (ends_are mesh.now node) }
@@ -101,6 +102,7 @@ fn count_ends(mesh: &Mesh, node: u32) -> u32
     }
 }
 
+// The end of a node at this index.
 fn end_at(mesh: &Mesh, node: u32, index: u32) -> End
     requires { index < length (ends_are mesh.now node) }
     ensures end { result ≡ end_is mesh.now node index }
@@ -124,6 +126,7 @@ fn section_at_end(mesh: &Mesh, window: u64, end: End) -> u32
     }
 }
 
+// The first for index 0, else the second.
 fn either(index: u32, first: u32, second: u32) -> u32
     ensures { result ≡ (if index == 0 then first else second) }
 {

@@ -1,3 +1,6 @@
 //! The worked rows: tables of calls and of whole cases whose answers were worked out by hand or by another
 //! program. It has tests alone, so that the crates below are proved once.
 #![tactic(auto)]
+
+#[cfg(test)]
+mod number_rows;

@@ -31,7 +31,7 @@ loop-k-preserved g c =
     let law = g.Self.Law.meaning c.args.self.now in
     let before = c.args.before.now in
     let same = in_bounds (law.inner c.args.pipe (c.args.first + c.loop-k.k)) before c.loop-k.k
-        (Good (pos 0) (pos 0) (pos 0) (pos 0)) (search rules) in
+    (Good (pos 0) (pos 0) (pos 0) (pos 0)) (search rules) in
     one_more
     (λ k. law.inner c.args.pipe (c.args.first + k) (point_at before k) (point_at before (k + 1)) (point_at before (k + 2)))
     c.loop-k.now c.loop-k.k c.inner.result (search rules) (c.inner.ensures ∙ same) c.loop-k.invariant
