@@ -3,8 +3,8 @@ use Rattle.std.specs.Prelude.{◌≡◌, ℕ, ◌+◌, ◌-◌, ◌<◌, ◌≤�
 use Rattle.regions.specs.Needs.{needs_of}
 
 -- strands by number, each a section or a station; the neighbour of a strand at an index of its
--- sides; and `back`, the index of the strand among that neighbour's sides. There are `windows` blocks
--- of each strand, and `slots` of them can stand at a time.
+-- sides; and `back`, the index of the strand among that neighbour's sides. There are `windows`
+-- blocks of each strand, and `slots` of them can stand at a time.
 pub record Net : Type 0 where
   pub strands : ℕ
   pub windows : ℕ
@@ -18,11 +18,16 @@ pub record Net : Type 0 where
 pub record IsNet (net : Net) : Type 0 where
   pub some : 1 ≤ net.slots
   pub strand : (x j : ℕ) → x < net.strands → j < net.sides x → net.side x j < net.strands
-  pub index : (x j : ℕ) → x < net.strands → j < net.sides x → net.back x j < net.sides (net.side x j)
-  pub again : (x j : ℕ) → x < net.strands → j < net.sides x → net.side (net.side x j) (net.back x j) ≡ x
-  pub twice : (x j : ℕ) → x < net.strands → j < net.sides x → net.back (net.side x j) (net.back x j) ≡ j
-  pub section : (x j : ℕ) → x < net.strands → j < net.sides x → net.is_section x ≡ true → net.is_section (net.side x j) ≡ false
-  pub station : (x j : ℕ) → x < net.strands → j < net.sides x → net.is_section x ≡ false → net.is_section (net.side x j) ≡ true
+  pub index : (x j : ℕ) → x < net.strands → j < net.sides x
+      → net.back x j < net.sides (net.side x j)
+  pub again : (x j : ℕ) → x < net.strands → j < net.sides x
+      → net.side (net.side x j) (net.back x j) ≡ x
+  pub twice : (x j : ℕ) → x < net.strands → j < net.sides x
+      → net.back (net.side x j) (net.back x j) ≡ j
+  pub section : (x j : ℕ) → x < net.strands → j < net.sides x → net.is_section x ≡ true
+      → net.is_section (net.side x j) ≡ false
+  pub station : (x j : ℕ) → x < net.strands → j < net.sides x → net.is_section x ≡ false
+      → net.is_section (net.side x j) ≡ true
 
 -- two nets are the same as far as strands and sides go
 pub record IsSameNet (a b : Net) : Type 0 where

@@ -184,7 +184,8 @@ impl Counts {
         requires { HasRegion (net_in self.now) strand region }
         ensures { IsTrue result ↔ (region < (net_in self.now).windows →
             (j : ℕ) → j < (net_in self.now).sides strand →
-            region < (state_in self.now).passed ((net_in self.now).side strand j) ((net_in self.now).back strand j)
+            region < (state_in self.now).passed
+            ((net_in self.now).side strand j) ((net_in self.now).back strand j)
             + (net_in self.now).slots) }
     {
         if region >= self.windows {
@@ -231,7 +232,8 @@ impl Counts {
     fn passed_by(&self, strand: u32, index: usize) -> u64
         requires strand { strand < (net_in self.now).strands }
         requires index { index < (net_in self.now).sides strand }
-        ensures { result ≡ (state_in self.now).passed ((net_in self.now).side strand index) ((net_in self.now).back strand index) }
+        ensures { result ≡ (state_in self.now).passed
+            ((net_in self.now).side strand index) ((net_in self.now).back strand index) }
     {
         let neighbour = self.link(strand, index).strand as usize;
         needed(self.kinds[neighbour], self.left[neighbour])
@@ -239,7 +241,8 @@ impl Counts {
 
     fn enter(&mut self, strand: u32, region: u64)
         requires { MayEnter (net_in self.old) (state_in self.old) strand region }
-        ensures state { state_in self.new ≡ after (net_in self.old) (state_in self.old) (Event.Enter strand region) }
+        ensures state { state_in self.new
+            ≡ after (net_in self.old) (state_in self.old) (Event.Enter strand region) }
         ensures net { net_in self.new ≡ net_in self.old }
     {
         self.entered[strand as usize] += 1;
@@ -247,7 +250,8 @@ impl Counts {
 
     fn leave(&mut self, strand: u32, region: u64)
         requires { MayLeave (net_in self.old) (state_in self.old) strand region }
-        ensures state { state_in self.new ≡ after (net_in self.old) (state_in self.old) (Event.Leave strand region) }
+        ensures state { state_in self.new
+            ≡ after (net_in self.old) (state_in self.old) (Event.Leave strand region) }
         ensures net { net_in self.new ≡ net_in self.old }
     {
         self.left[strand as usize] += 1;

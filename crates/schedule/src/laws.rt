@@ -15,8 +15,8 @@ pub fn lists_keep_order()
     ensures { KeepsOrder }
 {}
 
-/// Of each strand and side, published less passed is 0 to the count of slots; a block's slot is free
-/// while it is written, and holds it until its reader leaves.
+/// Of each strand and side, published less passed is 0 to the count of slots; a block's slot is
+/// free while it is written, and holds it until its reader leaves.
 pub fn lists_keep_slots()
     ensures { KeepsSlots }
 {}
@@ -47,7 +47,8 @@ pub fn lists_are_joined()
     ensures state { (net : Net) (state : State) (front rest : List Event) →
         run net state (front ++ rest) ≡ run net (run net state front) rest }
     ensures lawful { (net : Net) (state : State) (front rest : List Event) →
-        AreLawful net state front → AreLawful net (run net state front) rest → AreLawful net state (front ++ rest) }
+        AreLawful net state front → AreLawful net (run net state front) rest →
+        AreLawful net state (front ++ rest) }
     ensures front { (net : Net) (state : State) (front rest : List Event) →
         AreLawful net state (front ++ rest) → AreLawful net state front }
     ensures rest { (net : Net) (state : State) (front rest : List Event) →
@@ -56,6 +57,6 @@ pub fn lists_are_joined()
 
 /// Strands, sides and windows of a layout are a net, over any count of slots.
 pub fn layouts_make_nets()
-    ensures { (layout : LayoutSeen) (mesh : MeshSeen) (slots : ℕ) → IsLaidOut layout mesh → 1 ≤ slots →
-        IsNet (layout_net layout mesh slots) }
+    ensures { (layout : LayoutSeen) (mesh : MeshSeen) (slots : ℕ) →
+        IsLaidOut layout mesh → 1 ≤ slots → IsNet (layout_net layout mesh slots) }
 {}

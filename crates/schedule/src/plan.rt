@@ -29,8 +29,8 @@ impl Plan {
     ghost use Rattle.schedule.specs.Order.{IsLeast, AreAllLeft};
     ghost use Rattle.schedule.specs.Plans.{net_of, state_of};
 
-    /// The schedule of the layout of a mesh, of which nothing is entered, over so many slots for the
-    /// blocks of each strand. The error is want of memory.
+    /// The schedule of the layout of a mesh, of which nothing is entered, over so many slots for
+    /// the blocks of each strand. The error is want of memory.
     pub fn make(alloc: Global, layout: &Layout, mesh: &Mesh, slots: u64) -> Result<Plan, AllocError>
         requires laid_out { IsLaidOut layout.now mesh.now }
         requires some { 1 ≤ slots }
@@ -53,7 +53,8 @@ impl Plan {
         self.counts.sides(strand)
     }
 
-    /// The neighbour of a strand at this index, and the index at which that neighbour has the strand.
+    /// The neighbour of a strand at this index, and the index at which that neighbour has the
+    /// strand.
     pub fn link(&self, strand: u32, index: usize) -> Link
         requires strand { strand < (net_of self.now).strands }
         requires index { index < (net_of self.now).sides strand }
