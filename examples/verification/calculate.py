@@ -124,6 +124,11 @@ def stop_three_speeds():
         case.expect(f"watch H_{kind} {case.at(back)} HEAD", f"{kind}: head at 2L/a, m", "H0 - a V/g",
                     start - pipe.joukowsky, tolerance, ROUNDING)
     pipe, start = case.pipe("STEEL"), case.head("R_STEEL")
+    tolerance = pipe.rounding(pipe.joukowsky)
+    case.expect("peak HEAD", "greatest head of the three mains, m", "H0 + a V/g of STEEL", start + pipe.joukowsky, tolerance,
+                ROUNDING)
+    case.expect("peak LOW_HEAD", "least head of the three mains, m", "H0 - a V/g of STEEL", start - pipe.joukowsky, tolerance,
+                ROUNDING)
     middle = start + pipe.joukowsky / 2
     for place, words in [(20, "the hydrant"), (10, "half-way"), (5, "a quarter of the way from the reservoir")]:
         line = "watch H_STEEL" if place == 20 else f"probe STEEL {place}"
@@ -301,9 +306,9 @@ def wave_reflections():
                 "H0 + s F + s3 s F", start + passed * wave + again * passed * wave, tolerance, ROUNDING)
 
 
-STEADY = "the rest of the oscillation, and rounding of the loss of each reach to 1e-6 m"
-STEADY_HEAD = 0.0003
-STEADY_FLOW = 0.000003
+STEADY = "rounding of the area to 1 mm2 and of the loss of each reach to 1e-6 m"
+STEADY_HEAD = 0.0001
+STEADY_FLOW = 0.000002
 
 
 def steady_networks():
@@ -350,10 +355,10 @@ def flow_establishment():
         place = case.reaches("P") // 2
         for time in [10, 20, 40, 60]:
             part = math.tanh(time / scale)
-            # the loss of one step before is taken: it lags by dt times its own growth
-            lag = case.step / scale * steady * part ** 2
+            # the loss lags by half a time step, so the flow is ahead by what it would have cost in that time
+            lag = case.step / 2 / scale * steady * part ** 2
             case.expect(f"probe P {place} {case.at(time)} QU", f"flow after {time} s, m3/s", "Q0 tanh(g A H t/(L Q0))",
-                        steady * part, lag, "friction is taken one time step late")
+                        steady * part, lag, "friction is half a time step late")
 
 
 def line_packing():
@@ -364,22 +369,26 @@ def line_packing():
         valve = case.head("R") - loss
         one_reach = loss / reaches
         rate = pipe.friction * pipe.velocity / (4 * pipe.diameter * pipe.wave_speed)  # of the front, per metre
-        reason = "discrete time: the steady loss of one reach"
+        reason = "the loss of a reach is that at its start, second order; the fifth order of y = f V t/(8 D)"
+
+        def tolerance(order):
+            return one_reach * order ** 2 + order ** 5 * pipe.joukowsky + pipe.rounding(pipe.joukowsky)
+
         case.expect(f"watch V {case.at(SHUT)} HEAD", "head at the valve as it shuts, m", "Hv + a V/g",
-                    valve + pipe.joukowsky, one_reach, reason)
+                    valve + pipe.joukowsky, tolerance(0), ROUNDING)
         half = pipe.length / 2
         case.expect(f"probe P {reaches // 2} {case.at(SHUT + half / pipe.wave_speed)} HEAD",
                     "head half-way as the front comes, m", "Hv + S x + (a V/g)(1 - tanh(f V x/(4 a D)))",
-                    valve + loss / 2 + pipe.joukowsky * (1 - math.tanh(rate * half)), one_reach, reason)
-        for time, words in [(pipe.travel, "L/a"), (2 * pipe.travel - case.step, "2L/a, one step before")]:
-            way = pipe.wave_speed * time / 2
+                    valve + loss / 2 + pipe.joukowsky * (1 - math.tanh(rate * half)), tolerance(rate * half), reason)
+        for time, words in [(pipe.travel, "L/a"), (2 * (pipe.travel - case.step), "2L/a, two steps before")]:
+            order = rate * pipe.wave_speed * time / 2
             case.expect(f"watch V {case.at(SHUT + time)} HEAD", f"head at the valve after {words}, m",
-                        "Hv + (a V/g)(1 + 2 tanh(f V t/(8 D)))",
-                        valve + pipe.joukowsky * (1 + 2 * math.tanh(rate * way)), one_reach, reason)
+                        "Hv + (a V/g)(1 + 2 tanh(f V t/(8 D)))", valve + pipe.joukowsky * (1 + 2 * math.tanh(order)),
+                        tolerance(order), reason)
         order = rate * pipe.length
         case.expect("envelope V MAX", "greatest head at the valve, m", "Hv + a V/g + h_f", valve + pipe.joukowsky + loss,
-                    2 / 3 * order ** 3 * pipe.joukowsky + 1.5 * one_reach,
-                    "first order: the third order of f V L/(4 a D), and the loss of one and a half reaches")
+                    2 / 3 * order ** 3 * pipe.joukowsky + one_reach + pipe.rounding(pipe.joukowsky),
+                    "the third order of f V L/(4 a D), and the steady loss of one reach")
 
 
 def surge_tank_oscillation():
@@ -407,7 +416,7 @@ def surge_tank_oscillation():
     case.expect(f"watch T {time} HEAD", "level after an eighth of the period, m", "H0 + Z sin(w t)",
                 start + rise * math.sin(rate * time * case.step), 2 * elastic * rise + 0.001, amount)
     case.expect(f"probe TUNNEL 5 {time} QU", "flow half-way in the tunnel then, m3/s", "Q cos(w t)",
-                pipe.flow * math.cos(rate * time * case.step), 4 * elastic * pipe.flow + 0.001,
+                pipe.flow * math.cos(rate * time * case.step), 2 * elastic * pipe.flow + 0.001,
                 f"{amount}, which also lets the flow differ along the tunnel")
 
 
@@ -463,16 +472,18 @@ def vessel_small_oscillation():
         rate = math.sqrt(GRAVITY * pipe.area / (pipe.length * area))
         period, rise = 2 * math.pi / rate, pipe.flow / (area * rate)
         elastic = (rate * pipe.travel) ** 2 / 6
-        sample = case.step * int(case.fields("every")[1])
         growth = rate ** 2 * case.step / 4  # 1/s, of the amplitude
-        quarter = round(period / 4 / sample) * int(case.fields("every")[1])
-        reason = "compressibility of the water, the part (w L/a)^2/6; one sample"
-        for parts, side in [(2, "below"), (4, "above")]:
-            time = parts * period / 4
-            case.expect(f"time watch VE HEAD {side} {start:.0f} from {(parts - 1) * quarter}",
-                        "half a period, s" if parts == 2 else "a period, s",
-                        "pi sqrt(L Vg/(g A n H))" if parts == 2 else "2 pi sqrt(L Vg/(g A n H))", time,
-                        elastic * time + sample, reason)
+        quarter = round(period / 4 / case.step)
+        # the water's own spring: x tan x = (rate L/a)^2 with x = w L/a
+        whole = solve(lambda x: x * math.tan(x) - (rate * pipe.travel) ** 2, 1e-9, 1.5)
+        elastic_period = 2 * math.pi * pipe.travel / whole
+        uneven = (rise / absolute) ** 2
+        line = f"time watch VE HEAD above {start:.0f} from {3 * quarter}"
+        case.expect(line, "a period, rigid column, s", "2 pi sqrt(L Vg/(g A n H))", period,
+                    1.1 * elastic * period + case.step, "compressibility of the water, the part (w L/a)^2/6; one time step")
+        case.expect(line, "a period, with compressible water, s", "2 pi/w: (w L/a) tan(w L/a) = A L g n H/(a^2 Vg)",
+                    elastic_period, uneven * elastic_period + case.step,
+                    "one time step; the gas is not linear, the part (Z/H)^2")
         uneven = (EXPONENT + 1) / EXPONENT * rise ** 2 / absolute / 4
         case.expect(f"greatest watch VE HEAD 0 {2 * quarter}", "first upsurge, m", "H0 + Q sqrt(L n H/(g A Vg))",
                     start + rise, (elastic + growth * period / 4) * rise + uneven,
