@@ -125,9 +125,11 @@ def stop_three_speeds():
                     start - pipe.joukowsky, tolerance, ROUNDING)
     pipe, start = case.pipe("STEEL"), case.head("R_STEEL")
     tolerance = pipe.rounding(pipe.joukowsky)
-    case.expect("peak HEAD", "greatest head of the three mains, m", "H0 + a V/g of STEEL", start + pipe.joukowsky, tolerance,
+    case.expect("peak HEAD", "greatest head of the three mains, m", "H0 + a V/g of STEEL", start + pipe.joukowsky,
+                tolerance,
                 ROUNDING)
-    case.expect("peak LOW_HEAD", "least head of the three mains, m", "H0 - a V/g of STEEL", start - pipe.joukowsky, tolerance,
+    case.expect("peak LOW_HEAD", "least head of the three mains, m", "H0 - a V/g of STEEL", start - pipe.joukowsky,
+                tolerance,
                 ROUNDING)
     middle = start + pipe.joukowsky / 2
     for place, words in [(20, "the hydrant"), (10, "half-way"), (5, "a quarter of the way from the reservoir")]:
@@ -138,7 +140,8 @@ def stop_three_speeds():
         back = SHUT + (2 * pipe.length - way) / pipe.wave_speed
         case.expect(f"time {line} HEAD below {middle:.0f} from {case.at(SHUT + way / pipe.wave_speed)}",
                     f"STEEL: its reflection comes to {words}, s", "t0 + (2L - x)/a", back, TIME_ROUNDING, ON_A_STEP)
-    case.expect(f"probe STEEL 10 {case.at(SHUT + 1.5 * pipe.travel)} HEAD", "STEEL: head half-way as the reflection comes, m",
+    case.expect(f"probe STEEL 10 {case.at(SHUT + 1.5 * pipe.travel)} HEAD",
+                "STEEL: head half-way as the reflection comes, m",
                 "H0", start, pipe.rounding(pipe.joukowsky), ROUNDING)
     case.expect(f"probe STEEL 10 {case.at(SHUT + 1.5 * pipe.travel)} QU",
                 "STEEL: flow half-way as the reflection comes, m3/s", "-Q", -pipe.flow, 1e-7, "rounding of flows")
@@ -157,7 +160,8 @@ def stop_adjusted_speed():
         case.expect(f"watch H {case.at(SHUT)} HEAD", "head as the hydrant shuts, m", "H0 + a V/g",
                     start + pipe.joukowsky, adjustment * pipe.joukowsky + pipe.rounding(rise),
                     f"the wave speed is adjusted by {adjustment:.1%} to whole reaches")
-        case.expect(f"watch H {case.at(SHUT)} HEAD", "the same with the adjusted speed, m", "H0 + a' V/g, a' = L/(N dt)",
+        case.expect(f"watch H {case.at(SHUT)} HEAD", "the same with the adjusted speed, m",
+                    "H0 + a' V/g, a' = L/(N dt)",
                     start + rise, pipe.rounding(rise), ROUNDING)
         case.expect(f"time watch H HEAD below {start:.0f} from {case.at(SHUT)}", "the rise ends, s", "t0 + 2L/a",
                     SHUT + 2 * pipe.travel, adjustment * 2 * pipe.length / speed + TIME_ROUNDING,
@@ -202,7 +206,8 @@ def fast_closure():
     full = round(reaches * reach / pipe.length)
     case.expect("envelope H MAX", "greatest head at the hydrant, m", "H0 + a V/g", start + pipe.joukowsky, tolerance,
                 ROUNDING)
-    case.expect("time envelope H MAX", "time of the greatest head there, s", "t0 + Tc", ends, TIME_ROUNDING, ON_A_STEP)
+    case.expect("time envelope H MAX", "time of the greatest head there, s", "t0 + Tc", ends, TIME_ROUNDING,
+                ON_A_STEP)
     case.expect(f"envelope P {full} MAX", f"greatest head {reach:.0f} m from the reservoir, m",
                 "H0 + a V/g at x = a Tc/2", start + pipe.joukowsky, tolerance, ROUNDING)
     case.expect(f"time probe P {full} HEAD above {start + 0.999 * pipe.joukowsky:.1f} from 0",
@@ -249,7 +254,8 @@ def allievi():
         last_place = case.reaches(f"P_{name}")
         if name != "LOW":
             time = opens + period
-            case.expect(f"probe P_{name} {last_place} {case.at(time)} QU", f"{name}: flow through the valve at 2L/a, m3/s",
+            case.expect(f"probe P_{name} {last_place} {case.at(time)} QU",
+                        f"{name}: flow through the valve at 2L/a, m3/s",
                         "Q0 n_1 z_1", full_flow * opening(time) * roots[2], 2e-6, "rounding of the area to 1 mm2")
 
 
@@ -267,11 +273,14 @@ def wave_reflections():
     there = SHUT + narrow.travel
     case.expect(f"watch WIDENING {case.at(there)} HEAD", "narrow to wide: head at the widening, m", "H0 + s F",
                 start + passed * wave, tolerance, ROUNDING)
-    case.expect(f"watch STOP1 {case.at(there + narrow.travel)} HEAD", "narrow to wide: head at the stop after 2L/a, m",
+    case.expect(f"watch STOP1 {case.at(there + narrow.travel)} HEAD",
+                "narrow to wide: head at the stop after 2L/a, m",
                 "H0 + F + 2 (s - 1) F", start + wave + 2 * (passed - 1) * wave, tolerance, ROUNDING)
-    case.expect(f"probe WIDE1 5 {case.at(there + wide.travel / 2)} HEAD", "narrow to wide: head half-way in the wide main, m",
+    case.expect(f"probe WIDE1 5 {case.at(there + wide.travel / 2)} HEAD",
+                "narrow to wide: head half-way in the wide main, m",
                 "H0 + s F", start + passed * wave, tolerance, ROUNDING)
-    case.expect(f"probe WIDE1 5 {case.at(there + wide.travel / 2)} QU", "narrow to wide: flow half-way in the wide main, m3/s",
+    case.expect(f"probe WIDE1 5 {case.at(there + wide.travel / 2)} QU",
+                "narrow to wide: flow half-way in the wide main, m3/s",
                 "Q - s F/b", wide.flow - passed * wave / wide.impedance, 1e-6, "rounding of the area to 1 mm2")
     back = there + 1.5 * wide.travel
     case.expect(f"probe WIDE1 5 {case.at(back)} HEAD", "reservoir: head half-way as its reflection comes, m",
@@ -297,12 +306,14 @@ def wave_reflections():
     tolerance = 2 * west.rounding(wave)
     case.expect(f"watch FORK {case.at(there)} HEAD", "fork of three: head at the fork, m", "H0 + s F",
                 start + passed * wave, tolerance, ROUNDING)
-    case.expect(f"watch END3 {case.at(there + east.travel)} HEAD", "fork of three: head at the dead end, m", "H0 + 2 s F",
+    case.expect(f"watch END3 {case.at(there + east.travel)} HEAD", "fork of three: head at the dead end, m",
+                "H0 + 2 s F",
                 start + 2 * passed * wave, tolerance, ROUNDING)
     case.expect(f"watch STOP3 {case.at(there + west.travel)} HEAD", "fork of three: head at the stop after 2L/a, m",
                 "H0 + F + 2 (s - 1) F", start + wave + 2 * (passed - 1) * wave, tolerance, ROUNDING)
     again = transmission(east.impedance, main.impedance, west.impedance)
-    case.expect(f"watch FORK {case.at(there + 2 * east.travel)} HEAD", "fork of three: head as the dead end's wave comes, m",
+    case.expect(f"watch FORK {case.at(there + 2 * east.travel)} HEAD",
+                "fork of three: head as the dead end's wave comes, m",
                 "H0 + s F + s3 s F", start + passed * wave + again * passed * wave, tolerance, ROUNDING)
 
 
@@ -317,7 +328,8 @@ def steady_networks():
     first, second = case.pipe("S1"), case.pipe("S2")
     lift = case.head("A") - case.head("B")
     flow = math.sqrt(lift / (first.resistance + second.resistance))
-    case.expect(f"probe S2 0 {last} QU", "series: flow, m3/s", "sqrt(H/(R1 + R2)), R = f L/(2 g D A^2)", flow, STEADY_FLOW,
+    case.expect(f"probe S2 0 {last} QU", "series: flow, m3/s", "sqrt(H/(R1 + R2)), R = f L/(2 g D A^2)", flow,
+                STEADY_FLOW,
                 STEADY)
     case.expect(f"watch S {last} HEAD", "series: head between the mains, m", "HA - R1 Q^2",
                 case.head("A") - first.resistance * flow ** 2, STEADY_HEAD, STEADY)
@@ -325,7 +337,8 @@ def steady_networks():
     left, right = case.pipe("LEFT").resistance, case.pipe("RIGHT").resistance
     both = 1 / (1 / math.sqrt(left) + 1 / math.sqrt(right)) ** 2
     flow = math.sqrt((case.head("C") - case.head("D")) / (ends + both))
-    case.expect(f"probe LAST 0 {last} QU", "parallel: flow, m3/s", "sqrt(H/(R1 + Rp + R4)), Rp^-1/2 = R2^-1/2 + R3^-1/2",
+    case.expect(f"probe LAST 0 {last} QU", "parallel: flow, m3/s",
+                "sqrt(H/(R1 + Rp + R4)), Rp^-1/2 = R2^-1/2 + R3^-1/2",
                 flow, STEADY_FLOW, STEADY)
     case.expect(f"probe LEFT 2 {last} QU", "parallel: flow in the left main, m3/s", "Q sqrt(Rp/R2)",
                 flow * math.sqrt(both / left), STEADY_FLOW, STEADY)
@@ -357,7 +370,8 @@ def flow_establishment():
             part = math.tanh(time / scale)
             # the loss lags by half a time step, so the flow is ahead by what it would have cost in that time
             lag = case.step / 2 / scale * steady * part ** 2
-            case.expect(f"probe P {place} {case.at(time)} QU", f"flow after {time} s, m3/s", "Q0 tanh(g A H t/(L Q0))",
+            case.expect(f"probe P {place} {case.at(time)} QU", f"flow after {time} s, m3/s",
+                        "Q0 tanh(g A H t/(L Q0))",
                         steady * part, lag, "friction is half a time step late")
 
 
@@ -386,7 +400,8 @@ def line_packing():
                         "Hv + (a V/g)(1 + 2 tanh(f V t/(8 D)))", valve + pipe.joukowsky * (1 + 2 * math.tanh(order)),
                         tolerance(order), reason)
         order = rate * pipe.length
-        case.expect("envelope V MAX", "greatest head at the valve, m", "Hv + a V/g + h_f", valve + pipe.joukowsky + loss,
+        case.expect("envelope V MAX", "greatest head at the valve, m", "Hv + a V/g + h_f",
+                    valve + pipe.joukowsky + loss,
                     2 / 3 * order ** 3 * pipe.joukowsky + one_reach + pipe.rounding(pipe.joukowsky),
                     "the third order of f V L/(4 a D), and the steady loss of one reach")
 
@@ -401,7 +416,8 @@ def surge_tank_oscillation():
     elastic = (rate * pipe.travel) ** 2 / 6
     amount = "compressibility of the tunnel's water: the part (w L/a)^2/6"
     late = f"{amount}; one time step"
-    case.expect("envelope T MAX", "greatest level, m", "H0 + V sqrt(L A/(g At))", start + rise, elastic * rise + 0.001,
+    case.expect("envelope T MAX", "greatest level, m", "H0 + V sqrt(L A/(g At))", start + rise,
+                elastic * rise + 0.001,
                 amount)
     case.expect("envelope T MIN", "least level, m", "H0 - V sqrt(L A/(g At))", start - rise, elastic * rise + 0.001,
                 amount)
@@ -410,7 +426,8 @@ def surge_tank_oscillation():
         time = parts * period / 4
         case.expect(f"time watch T HEAD {side} {start:.0f} from {(parts - 1) * quarter}",
                     "the level is back, s" if parts == 2 else "the level is back again, one period, s",
-                    "pi sqrt(L At/(g A))" if parts == 2 else "2 pi sqrt(L At/(g A))", time, elastic * time + case.step,
+                    "pi sqrt(L At/(g A))" if parts == 2 else "2 pi sqrt(L At/(g A))", time,
+                    elastic * time + case.step,
                     late)
     time = round(period / 8 / case.step)
     case.expect(f"watch T {time} HEAD", "level after an eighth of the period, m", "H0 + Z sin(w t)",
@@ -436,7 +453,8 @@ def surge_tank_friction():
     late = pipe.flow * case.step / 2 * 2 / 3 * loss / (area * up_level / rate)
     amount = "compressibility of the tunnel's water; friction is half a time step late"
     tolerance = elastic * pipe.flow / (area * rigid) + late + 0.001
-    case.expect("envelope T MAX", "first upsurge, m", "H0 + z: m z + ln(1 - m z) + m h_f = 0", start + up_level / rate,
+    case.expect("envelope T MAX", "first upsurge, m", "H0 + z: m z + ln(1 - m z) + m h_f = 0",
+                start + up_level / rate,
                 tolerance, amount)
     case.expect("envelope T MIN", "first downsurge, m", "H0 - z2: (1 - m z2) e^(m z2) = (1 + m z) e^(-m z)",
                 start + down_level / rate, tolerance, amount)
@@ -480,7 +498,8 @@ def vessel_small_oscillation():
         uneven = (rise / absolute) ** 2
         line = f"time watch VE HEAD above {start:.0f} from {3 * quarter}"
         case.expect(line, "a period, rigid column, s", "2 pi sqrt(L Vg/(g A n H))", period,
-                    1.1 * elastic * period + case.step, "compressibility of the water, the part (w L/a)^2/6; one time step")
+                    1.1 * elastic * period + case.step,
+                    "compressibility of the water: the part (w L/a)^2/6; one time step")
         case.expect(line, "a period, with compressible water, s", "2 pi/w: (w L/a) tan(w L/a) = A L g n H/(a^2 Vg)",
                     elastic_period, uneven * elastic_period + case.step,
                     "one time step; the gas is not linear, the part (Z/H)^2")
@@ -519,21 +538,26 @@ def vessel_large():
 def pump_duty_point():
     case = Case("pump_duty_point")
     last = int(case.fields("steps")[1])
-    (_, shut_off), (_, other) = curve = case.table("curve", "C")
-    slope = (shut_off - other) / (curve[1][0] - curve[0][0])
-    for number, name in [(1, "FULL"), (2, "SLOW")]:
+    curve = case.table("curve", "C")
+    for number, name in [(1, "FULL"), (2, "SLOW"), (3, "SLOWEST")]:
         speed = float(case.fields("pump", name)[4])
-        lift = case.head(f"HIGH{number}") - case.head(f"LOW{number}")
+        low, high = case.head(f"LOW{number}"), case.head(f"HIGH{number}")
         before, after = case.pipe(f"IN{number}").resistance, case.pipe(f"OUT{number}").resistance
-        total = before + after
-        drop = speed * slope
-        flow = (-drop + math.sqrt(drop ** 2 + 4 * total * (speed ** 2 * shut_off - lift))) / (2 * total)
-        case.expect(f"probe OUT{number} 0 {last} QU", f"speed {speed:g}: flow, m3/s",
-                    "s^2 P0 - s k Q = H + (R1 + R2) Q^2", flow, STEADY_FLOW, STEADY)
-        case.expect(f"probe OUT{number} 0 {last} HEAD", f"speed {speed:g}: head behind the pump, m", "HH + R2 Q^2",
-                    case.head(f"HIGH{number}") + after * flow ** 2, STEADY_HEAD, STEADY)
-        case.expect(f"probe IN{number} 2 {last} HEAD", f"speed {speed:g}: head before the pump, m", "HL - R1 Q^2",
-                    case.head(f"LOW{number}") - before * flow ** 2, STEADY_HEAD, STEADY)
+        # flows go with the speed, rises with its square; on a stretch the rise is p - k Q
+        points = [(speed * flow, speed ** 2 * rise) for flow, rise in curve]
+        for stretch, ((first, p), (second, q)) in enumerate(zip(points, points[1:]), 1):
+            k = (p - q) / (second - first)
+            net = p + k * first - (high - low)
+            flow = (-k + math.sqrt(max(0.0, k ** 2 + 4 * (before + after) * net))) / (2 * (before + after))
+            if first <= flow <= second:
+                break
+        words = f"speed {speed:g}, stretch {stretch} of the curve"
+        case.expect(f"probe OUT{number} 0 {last} QU", f"{words}: flow, m3/s", "s^2 P(Q/s) = H + (R1 + R2) Q^2", flow,
+                    STEADY_FLOW, STEADY)
+        case.expect(f"probe OUT{number} 0 {last} HEAD", f"{words}: head behind the pump, m", "HH + R2 Q^2",
+                    high + after * flow ** 2, STEADY_HEAD, STEADY)
+        case.expect(f"probe IN{number} 2 {last} HEAD", f"{words}: head before the pump, m", "HL - R1 Q^2",
+                    low - before * flow ** 2, STEADY_HEAD, STEADY)
 
 
 def pump_trip_check_valve():
@@ -552,7 +576,8 @@ def pump_trip_check_valve():
     back = SHUT + 2 * rising.travel
     case.expect(f"probe RISING 0 {case.at(back)} HEAD", "upsurge behind the pump after 2L/a, m", "HH + a V/g",
                 high + rising.joukowsky, tolerance, ROUNDING)
-    case.expect(f"time probe RISING 0 HEAD above {high:.0f} from {step}", "time of that upsurge, s", "t0 + 2L/a", back,
+    case.expect(f"time probe RISING 0 HEAD above {high:.0f} from {step}", "time of that upsurge, s", "t0 + 2L/a",
+                back,
                 TIME_ROUNDING, ON_A_STEP)
     case.expect(f"envelope RISING {last // 2} MIN", "least head half-way up the main, m", "HH - a V/g",
                 high - rising.joukowsky, tolerance, ROUNDING)
@@ -593,7 +618,8 @@ def pump_trip_friction():
     lift, step = high - low, case.at(SHUT)
     before, after = suction.resistance * suction.flow ** 2, rising.resistance * rising.flow ** 2
     rise = lift + before + after
-    case.expect(f"probe RISING 0 {step - 1} HEAD", "steady head behind the pump, m", "HH + R2 Q^2", high + after, 0.0001,
+    case.expect(f"probe RISING 0 {step - 1} HEAD", "steady head behind the pump, m", "HH + R2 Q^2", high + after,
+                0.0001,
                 STEADY)
     case.expect(f"probe RISING 0 {step} HEAD", "first downsurge behind the pump, m",
                 "HH + R2 Q^2 - P b2/(b1 + b2), P = H + (R1 + R2) Q^2", high + after - rise / 2,
@@ -618,7 +644,8 @@ def column_separation():
         case.expect(f"watch V {case.at(SHUT)} HEAD", "head as the main is shut, m", "H0 + a V/g",
                     start + pipe.joukowsky, tolerance, ROUNDING)
         case.expect(f"watch V {case.at(opened)} HEAD", "head as the cavity opens, m", "z + hv", vapour, 1e-6, "none")
-        case.expect(f"time watch V HEAD below {vapour + 0.001:.3f} from {case.at(SHUT)}", "the cavity opens, s", "t0 + 2L/a", opened,
+        case.expect(f"time watch V HEAD below {vapour + 0.001:.3f} from {case.at(SHUT)}", "the cavity opens, s",
+                    "t0 + 2L/a", opened,
                     TIME_ROUNDING, ON_A_STEP)
         # the flow away from the end falls by 2 H/b with each return of the wave
         growth, volumes = pipe.flow - pull / pipe.impedance, [0.0]
@@ -631,7 +658,8 @@ def column_separation():
         collapse = opened + (len(volumes) - 1) * period + volumes[-1] / -growth
         greatest = max(volumes)
         late = (1 - weight) * case.step * (pull / pipe.impedance * 2)
-        case.expect("cavity V VOLUME", "greatest volume of the cavity, m3", "sum of (Q - (2i - 1) H/b) 2L/a", greatest,
+        case.expect("cavity V VOLUME", "greatest volume of the cavity, m3", "sum of (Q - (2i - 1) H/b) 2L/a",
+                    greatest,
                     late + 1e-5, "rounding of the area to 1 mm2" if weight == 1 else
                     "the mean of old and new growth; rounding of the area to 1 mm2")
         steps = 5
@@ -642,12 +670,15 @@ def column_separation():
         case.expect(line, "the cavity collapses, rigid column, s", "t0 + 2L/a + 2 L V/(g H)",
                     opened + 2 * pipe.length * pipe.velocity / (GRAVITY * pull), pipe.travel + case.step,
                     "the flow changes in steps: half of 2L/a, and one time step")
-        case.expect(line, "the cavity collapses, by the steps of the flow, s", "t0 + 2L/a + time of volume 0", collapse,
+        case.expect(line, "the cavity collapses, by the steps of the flow, s", "t0 + 2L/a + time of volume 0",
+                    collapse,
                     case.step, "one time step")
         peak_line = f"greatest watch V HEAD {case.at(opened)} {case.at(math.floor(collapse) + 1.0) - 1}"
-        case.expect(peak_line, "head at the collapse, rigid column, m", "z + hv + a V/g", vapour + pipe.joukowsky, pull,
+        case.expect(peak_line, "head at the collapse, rigid column, m", "z + hv + a V/g", vapour + pipe.joukowsky,
+                    pull,
                     "the flow changes in steps of 2 H/b: half of one")
-        case.expect(peak_line, "head at the collapse, by the steps of the flow, m", "z + hv - b g", vapour - pipe.impedance * growth,
+        case.expect(peak_line, "head at the collapse, by the steps of the flow, m", "z + hv - b g",
+                    vapour - pipe.impedance * growth,
                     2 * tolerance, ROUNDING)
         case.expect("envelope V MAX", "peak after the collapse, m", "z + hv - b g + 2 H",
                     vapour - pipe.impedance * growth + 2 * pull, 2 * tolerance, ROUNDING)
@@ -673,19 +704,53 @@ def meeting_waves():
     back = opened + pipe.travel
     first = 2 * lack / pipe.impedance
     second = first - 4 * (low - vapour) / pipe.impedance
-    case.expect(f"cavity P {middle} VOLUME", "greatest volume, m3", "2 (hv - (H0 - 2 F))/b L/a", first * pipe.travel, 1e-6,
+    case.expect(f"cavity P {middle} VOLUME", "greatest volume, m3", "2 (hv - (H0 - 2 F))/b L/a",
+                first * pipe.travel, 1e-6,
                 reason)
     case.expect(f"time {line} HEAD above {vapour + 1:.1f} from {case.at(opened)}", "the cavity collapses, s",
                 "t1 + L/a + V/(4 (H1 - hv)/b - g)", back + first * pipe.travel / -second, case.step, "one time step")
     collapsed = vapour - pipe.impedance * second / 2
-    case.expect(f"greatest {line} HEAD {case.at(opened)} {case.at(back + pipe.travel) - 1}", "head at the collapse, m",
+    case.expect(f"greatest {line} HEAD {case.at(opened)} {case.at(back + pipe.travel) - 1}",
+                "head at the collapse, m",
                 "hv + b (4 (H1 - hv)/b - g)/2", collapsed, tolerance, ROUNDING)
     case.expect(f"envelope P {middle} MAX", "peak after the collapse, m", "that head + 2 (H1 - hv)",
                 collapsed + 2 * (low - vapour), tolerance, ROUNDING)
-    case.expect(f"probe P {middle // 2} {case.at(opened + pipe.travel / 4)} HEAD", "head on the way to the reservoir, m",
+    case.expect(f"probe P {middle // 2} {case.at(opened + pipe.travel / 4)} HEAD",
+                "head on the way to the reservoir, m",
                 "hv", vapour, tolerance, ROUNDING)
     case.expect(f"probe P {middle // 2} {case.at(opened + pipe.travel / 4)} QU", "flow there, m3/s",
                 "-(hv - (H0 - 2 F))/b", -lack / pipe.impedance, 1e-6, reason)
+
+
+def cavity_at_valve():
+    case = Case("cavity_at_valve")
+    pipe = case.pipe("P")
+    (_, high), (_, low) = case.table("heads", "FALL")
+    full_flow, loss, outlet, opening = map(float, case.fields("discharge", "V")[3:7])
+    area = (opening * full_flow) ** 2 / loss  # (n q0)^2/h0
+    vapour, last = -10.1, case.reaches("P")
+    opened = SHUT + pipe.travel
+    back = opened + 2 * pipe.travel
+    inflow = -math.sqrt(area * (outlet - vapour))  # through the valve, out of the main
+    away = (vapour - (high - 2 * (high - low))) / pipe.impedance
+    growth = inflow + away
+    reason = "rounding of the area to 1 mm2"
+    case.expect(f"watch V {case.at(opened)} HEAD", "head as the cavity opens, m", "hv", vapour, 1e-6, "none")
+    case.expect(f"watch V {case.at(opened)} GROWTH", "growth of the cavity, m3/s",
+                "(hv - (H0 - 2 F))/b - n q0 sqrt((Ho - hv)/h0)", growth, 1e-6, reason)
+    case.expect(f"probe P {last} {case.at(opened)} QU", "flow in the main at the valve, m3/s", "-(hv - (H0 - 2 F))/b", -away,
+                1e-6, reason)
+    case.expect("cavity V VOLUME", "greatest volume, m3", "g 2L/a", growth * 2 * pipe.travel, 2e-6, reason)
+    arrival = high - 2 * (high - low) + 2 * (low - vapour)
+    shrink = (arrival - vapour) / pipe.impedance - inflow
+    case.expect(f"time watch V HEAD above {vapour + 0.1:.1f} from {case.at(opened)}", "the cavity closes, s",
+                "t1 + 2L/a + g (2L/a)/((c - hv)/b + n q0 sqrt((Ho - hv)/h0))", back + growth * 2 * pipe.travel / shrink, case.step,
+                "one time step")
+    # behind it the valve lets water flow back: (q/(n q0))^2 h0 = Ho - c - b q
+    half = pipe.impedance * area / 2
+    reverse = -half + math.sqrt(half ** 2 + area * (outlet - arrival))
+    case.expect(f"watch V {case.at(back + 1.8 * pipe.travel)} HEAD", "head after it closes, m",
+                "c + b q, h0 (q/(n q0))^2 + b q = Ho - c", arrival + pipe.impedance * reverse, pipe.rounding(outlet), ROUNDING)
 
 
 def inline_valve_steady():
@@ -709,7 +774,7 @@ def inline_valve_wave():
     case = Case("inline_valve_wave")
     (_, low), (_, high) = case.table("heads", "RISE")
     wave = high - low
-    for name, before, after, behind in [("LIKE", "P1", "P2", "B1"), ("UNLIKE", "P3", "P4", "B2"), ("CLOSED", "P5", "P6", "B3")]:
+    for name, before, after in [("LIKE", "P1", "P2"), ("UNLIKE", "P3", "P4"), ("CLOSED", "P5", "P6")]:
         full_flow, loss, opening = map(float, case.fields("inline", name)[3:6])
         first, second = case.pipe(before), case.pipe(after)
         both = first.impedance + second.impedance
@@ -719,7 +784,8 @@ def inline_valve_wave():
         step = case.at(SHUT + first.travel)
         tolerance = second.rounding(2 * wave)
         words = {"LIKE": "like mains", "UNLIKE": "narrower main", "CLOSED": "valve shut"}[name]
-        case.expect(f"probe {after} 0 {step} QU", f"{words}: flow that passes, m3/s", "q: h0 (q/(n q0))^2 + (b1 + b2) q = 2 F",
+        case.expect(f"probe {after} 0 {step} QU", f"{words}: flow that passes, m3/s",
+                    "q: h0 (q/(n q0))^2 + (b1 + b2) q = 2 F",
                     flow, 1e-6, "rounding of the area to 1 mm2")
         case.expect(f"probe {before} 10 {step} HEAD", f"{words}: head before the valve, m", "H0 + 2 F - b1 q",
                     low + 2 * wave - first.impedance * flow, tolerance, ROUNDING)
@@ -729,6 +795,44 @@ def inline_valve_wave():
             case.expect(f"probe {before} 5 {case.at(SHUT + 1.5 * first.travel)} HEAD",
                         f"{words}: head half-way back, m", "H0 + 2 F - b1 q",
                         low + 2 * wave - first.impedance * flow, tolerance, ROUNDING)
+
+
+def sloping_main():
+    for name in ["sloping_main", "sloping_main_coarse"]:
+        case = Case(name)
+        pipe, start = case.pipe("P"), case.head("B")
+        reaches, climb = case.reaches("P"), case.number("reservoir", "B", 2)
+        fall = pipe.impedance * pipe.flow
+        tolerance = pipe.rounding(fall)
+
+        def vapour(place):
+            return climb * place / reaches - 10.1
+
+        lowest = math.ceil((start - fall + 10.1) / climb * reaches)  # the first place above that elevation
+        way = pipe.length / reaches
+        reason = "rounding of the area to 1 mm2"
+        case.expect("count cavity", "places with a cavity", "those with z + hv > H0 - b Q", reaches - lowest, 1e-6,
+                    "none")
+        case.expect(f"envelope P {lowest - 1} MIN", f"least head {way * (lowest - 1):.0f} m up, below the zone, m",
+                    "H0 - b Q",
+                    start - fall, tolerance, ROUNDING)
+        upper = [line for line in case.lines if line and line[0] == "probe"][2][2]
+        for place in [lowest, int(upper), reaches - 1]:
+            comes = SHUT + way * place / pipe.wave_speed
+            below = start - fall if place == lowest else vapour(place - 1)  # head that comes from the place below
+            lack = vapour(place) - below
+            words = f"{way * place:.0f} m up"
+            case.expect(f"envelope P {place} MIN", f"least head {words}, m", "z + hv", vapour(place), 2e-6,
+                        "rounding")
+            case.expect(f"time probe P {place} VOLUME above 0 from 0", f"the cavity opens {words}, s", "t0 + x/a",
+                        comes,
+                        TIME_ROUNDING, ON_A_STEP)
+            before = pipe.flow - (start - below) / pipe.impedance
+            case.expect(f"probe P {place} {case.at(comes)} QU", f"flow before the cavity {words}, m3/s",
+                        "Q - (H0 - h)/b - (z + hv - h)/b, h the head that comes", before - lack / pipe.impedance,
+                        1e-6, reason)
+            case.expect(f"probe P {place} {case.at(comes)} QD", f"flow behind the cavity {words}, m3/s",
+                        "Q - (H0 - z - hv)/b", pipe.flow - (start - vapour(place)) / pipe.impedance, 1e-6, reason)
 
 
 def crest_cavity():
@@ -745,28 +849,35 @@ def crest_cavity():
         shrink = 2 * (start - vapour) / pipe.impedance - growth
         reason = "rounding of the area to 1 mm2"
         case.expect("envelope CREST MIN", "least head at the crest, m", "z + hv", vapour, 1e-6, "none")
-        case.expect(f"time watch CREST HEAD below {vapour + 0.001:.3f} from 0", "the cavity opens, s", "t0 + x/a", opened, TIME_ROUNDING,
+        case.expect(f"time watch CREST HEAD below {vapour + 0.001:.3f} from 0", "the cavity opens, s", "t0 + x/a",
+                    opened, TIME_ROUNDING,
                     ON_A_STEP)
         case.expect("count cavity", "places with a cavity", "1, the crest", 1, 1e-6, "none")
         case.expect("envelope S MIN", "least head at the lower end, m", "H0 - b Q", start - fall, tolerance, ROUNDING)
-        case.expect(f"watch CREST {case.at(opened)} GROWTH", "growth of the cavity, m3/s", "2 (z + hv - (H0 - b Q))/b", growth,
+        case.expect(f"watch CREST {case.at(opened)} GROWTH", "growth of the cavity, m3/s",
+                    "2 (z + hv - (H0 - b Q))/b", growth,
                     1e-6, reason)
         case.expect("cavity CREST VOLUME", "greatest volume, m3", "g 2 L2/a", growth * period, 2e-6, reason)
         case.expect(f"time watch CREST HEAD above {vapour + 0.1:.1f} from {case.at(opened)}", "the cavity closes, s",
-                    "t1 + 2 L2/a + g (2 L2/a)/(2 (H0 - z - hv)/b - g)", opened + period + growth * period / shrink, case.step,
+                    "t1 + 2 L2/a + g (2 L2/a)/(2 (H0 - z - hv)/b - g)", opened + period + growth * period / shrink,
+                    case.step,
                     "one time step")
-        case.expect(f"greatest watch CREST HEAD {case.at(opened)} {case.at(6.0)}", "head as it closes, m", "H0 - (z + hv - (H0 - b Q))",
+        case.expect(f"greatest watch CREST HEAD {case.at(opened)} {case.at(6.0)}", "head as it closes, m",
+                    "H0 - (z + hv - (H0 - b Q))",
                     start - lack, 2 * tolerance, ROUNDING)
         heel = opened + case.pipe("DOWN").travel
-        case.expect(f"probe P2 0 {case.at(heel)} HEAD", "head behind the crest as the wave comes, m", "z + hv", vapour, tolerance,
+        case.expect(f"probe P2 0 {case.at(heel)} HEAD", "head behind the crest as the wave comes, m", "z + hv",
+                    vapour, tolerance,
                     ROUNDING)
         case.expect(f"envelope P2 0 MIN", "least head behind the crest, m", "z + hv", vapour, tolerance, ROUNDING)
 
 
 ALL = [stop_three_speeds, stop_adjusted_speed, slow_closure, fast_closure, allievi, wave_reflections, steady_networks,
        flow_establishment, line_packing, surge_tank_oscillation, surge_tank_friction, vessel_small_oscillation,
-       vessel_large, pump_duty_point, pump_trip_check_valve, pump_trip_low_lift, pump_trip_friction, column_separation,
-       meeting_waves, inline_valve_steady, inline_valve_wave, crest_cavity]
+       vessel_large, pump_duty_point, pump_trip_check_valve, pump_trip_low_lift, pump_trip_friction,
+       column_separation,
+       meeting_waves, cavity_at_valve, inline_valve_steady, inline_valve_wave, crest_cavity,
+       sloping_main]
 
 
 def main():
@@ -781,7 +892,8 @@ def main():
         wrong = [number for number in range(max(len(wanted), len(there)))
                  if wanted[number:number + 1] != there[number:number + 1]]
         for number in wrong:
-            print(f"expected.tsv line {number + 1}: {there[number:number + 1]}, calculated {wanted[number:number + 1]}")
+            print(f"expected.tsv line {number + 1}: {there[number:number + 1]},"
+                  f" calculated {wanted[number:number + 1]}")
         sys.exit(1 if wrong else 0)
     elif not words:
         print(text, end="")
