@@ -251,12 +251,12 @@ def allievi():
             words = f"{name}: head at {number / 2:g} times 2L/a"
             case.expect(f"watch {name} {case.at(time)} HEAD", f"{words}, m", "H0 z_i^2, interlocking equations", head,
                         2 * pipe.rounding(pipe.impedance * full_flow), reason)
-        last_place = case.reaches(f"P_{name}")
         if name != "LOW":
-            time = opens + period
-            case.expect(f"probe P_{name} {last_place} {case.at(time)} QU",
-                        f"{name}: flow through the valve at 2L/a, m3/s",
-                        "Q0 n_1 z_1", full_flow * opening(time) * roots[2], 2e-6, "rounding of the area to 1 mm2")
+            # the main of OPEN runs from the valve
+            place, sign = (0, -1) if name == "OPEN" else (case.reaches("P_HIGH"), 1)
+            case.expect(f"probe P_{name} {place} {case.at(opens + period)} QU",
+                        f"{name}: flow through the valve at 2L/a, m3/s", "Q0 n_1 z_1",
+                        sign * full_flow * opening(opens + period) * roots[2], 2e-6, "rounding of the area to 1 mm2")
 
 
 def transmission(*impedances):
@@ -441,7 +441,8 @@ def surge_tank_friction():
     case = Case("surge_tank_friction")
     pipe, start = case.pipe("TUNNEL"), case.head("R")
     area = case.number("tank", "T", 3)
-    loss = pipe.resistance * pipe.flow ** 2
+    flow = abs(pipe.flow)
+    loss = pipe.resistance * flow ** 2
     rate = 2 * pipe.resistance * GRAVITY * pipe.area * area / pipe.length  # m of the energy equation, 1/m
     # dimensionless levels m z; the water comes to rest at the first upsurge, then at the first downsurge, and so on
     up_level = solve(lambda x: x + math.log(1 - x) + rate * loss, 1e-9, 1 - 1e-12)
@@ -450,9 +451,9 @@ def surge_tank_friction():
     rigid = math.sqrt(GRAVITY * pipe.area / (pipe.length * area))
     elastic = (rigid * pipe.travel) ** 2 / 6
     # the loss lags by half a time step; the work of that is dt/2 times 2/3 of the loss times the flow at the start
-    late = pipe.flow * case.step / 2 * 2 / 3 * loss / (area * up_level / rate)
+    late = flow * case.step / 2 * 2 / 3 * loss / (area * up_level / rate)
     amount = "compressibility of the tunnel's water; friction is half a time step late"
-    tolerance = elastic * pipe.flow / (area * rigid) + late + 0.001
+    tolerance = elastic * flow / (area * rigid) + late + 0.001
     case.expect("envelope T MAX", "first upsurge, m", "H0 + z: m z + ln(1 - m z) + m h_f = 0",
                 start + up_level / rate,
                 tolerance, amount)
@@ -756,18 +757,20 @@ def cavity_at_valve():
 def inline_valve_steady():
     case = Case("inline_valve_steady")
     last = int(case.fields("steps")[1])
-    for name, before, after, above, below in [("HALF", "P1", "P2", "A", "B"), ("WIDE", "P3", "P4", "C", "D")]:
+    for name, before, after, above, below in [("HALF", "P1", "P2", "A", "B"), ("WIDE", "P3", "P4", "C", "D"),
+                                              ("BACK", "P5", "P6", "E", "F")]:
         full_flow, loss, opening = map(float, case.fields("inline", name)[3:6])
         valve = loss / (opening * full_flow) ** 2
         first, second = case.pipe(before).resistance, case.pipe(after).resistance
-        flow = math.sqrt((case.head(above) - case.head(below)) / (first + valve + second))
-        words = f"opening {opening:g}"
+        drop = case.head(above) - case.head(below)
+        flow = math.copysign(math.sqrt(abs(drop) / (first + valve + second)), drop)
+        words = f"opening {opening:g}{'' if drop > 0 else ', backwards'}"
         case.expect(f"probe {after} 0 {last} QU", f"{words}: flow, m3/s", "sqrt(H/(R1 + h0/(n q0)^2 + R2))", flow,
                     STEADY_FLOW, STEADY)
-        case.expect(f"probe {before} 3 {last} HEAD", f"{words}: head before the valve, m", "HA - R1 Q^2",
-                    case.head(above) - first * flow ** 2, STEADY_HEAD, STEADY)
-        case.expect(f"probe {after} 0 {last} HEAD", f"{words}: head behind the valve, m", "HB + R2 Q^2",
-                    case.head(below) + second * flow ** 2, STEADY_HEAD, STEADY)
+        case.expect(f"probe {before} 3 {last} HEAD", f"{words}: head before the valve, m", "HA - R1 Q |Q|",
+                    case.head(above) - first * flow * abs(flow), STEADY_HEAD, STEADY)
+        case.expect(f"probe {after} 0 {last} HEAD", f"{words}: head behind the valve, m", "HB + R2 Q |Q|",
+                    case.head(below) + second * flow * abs(flow), STEADY_HEAD, STEADY)
 
 
 def inline_valve_wave():
