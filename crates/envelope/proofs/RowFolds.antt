@@ -13,7 +13,7 @@ use Rattle.case_model.specs.declared.points.Point.{Point}
 use Rattle.case_model.specs.declared.points.Point.TheVariants.{Good, Bad}
 use Rattle.case_model.specs.declared.states.NodeState.{NodeState}
 use Rattle.case_model.specs.declared.states.NodeState.TheVariants.{Good as GoodState, Bad as BadState}
-use Rattle.case_model.specs.FaultLaws.{first_fault-only, first_fault-None, first_fault-none_bad}
+use Rattle.case_model.specs.FaultLaws.{first_fault-only, first_fault-None, first_fault-none_bad, first_fault-Some}
 use Rattle.case_model.specs.FirstFault.{first_fault, IsFirstFault}
 use Rattle.case_model.specs.Meaning.{Meaning}
 use Rattle.case_model.specs.Mesh.{IsNumbered}
@@ -84,6 +84,9 @@ bad-below law s k n t = elim (or-over law.mesh.places k) [
 ]
 
 -- ---- the first fault
+
+pub fault-below : (law : Meaning) (last step place : ℕ) → IsNumbered law.mesh → first_fault law last ≡ Some (step, place) → place < law.mesh.places
+fault-below law last step place n e = bad-below law step place n (first_fault-Some law last step place e).bad
 
 pub fault-is : (law : Meaning) (last : ℕ) (fault : Option (ℕ × ℕ)) → IsNumbered law.mesh → HasFault ((0, law.mesh.places) ∷ []) last (rows_noted law) fault → fault ≡ first_fault law last
 fault-is law last None n p =

@@ -1,3 +1,4 @@
+//! The laws of folds, of their extremes and of place numbers. No function here does anything.
 ghost use Rattle.std.specs.Prelude.{◌≡◌, ◌≢◌, ℕ, ◌<◌, ◌≤◌, ℤ, List, [], ◌∷◌, length, Option, Some, None, true};
 ghost use Rattle.case_model.specs.declared.cases.Case.{Case};
 ghost use Rattle.case_model.specs.declared.cases.ProbeAt.{ProbeAt};
@@ -36,12 +37,14 @@ pub fn extremes_are_exact()
 {}
 
 /// The law of place numbers: each place of a mesh has one, below the count of places, and each number
-/// below that count is that of a place.
+/// below that count is that of a place. The first fault of a law's rows is at one.
 pub fn numbers_tell_places()
     ensures place { (mesh : Mesh) (at : ProbeAt) → IsNumbered mesh → IsOn mesh at → place_at mesh (number_of mesh at) ≡ at }
     ensures below { (mesh : Mesh) (at : ProbeAt) → IsNumbered mesh → IsOn mesh at → number_of mesh at < mesh.places }
     ensures on { (mesh : Mesh) (k : ℕ) → IsNumbered mesh → k < mesh.places → IsOn mesh (place_at mesh k) }
     ensures number { (mesh : Mesh) (k : ℕ) → IsNumbered mesh → k < mesh.places → number_of mesh (place_at mesh k) ≡ k }
+    ensures fault { (law : Meaning) (last step place : ℕ) → IsNumbered law.mesh →
+        first_fault law last ≡ Some (step, place) → place < law.mesh.places }
 {}
 
 /// The law of maps: a fold that stands for one stands for each other that has the same at the steps 0
