@@ -1,3 +1,4 @@
+//! Laws of accepted texts: their cases can be written, and read back.
 ghost use Rattle.std.specs.Prelude.{◌≡◌, ◌≤◌, ℕ, List, Ok, length};
 ghost use Rattle.case_model.specs.declared.cases.Case.{Case};
 ghost use Rattle.case_model.specs.declared.meshes.Mesh.{Mesh};
