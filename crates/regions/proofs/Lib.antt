@@ -1,7 +1,7 @@
 mod Blocking
-mod Checked
 mod Counting
 mod Cutting
+mod Depending
 mod Joining
 mod Listing
 mod Needing
@@ -11,6 +11,7 @@ mod Pieces
 mod Placing
 mod Reading
 mod Shaped
+pub mod Sound
 mod Standing
 mod Strands
 mod Whole

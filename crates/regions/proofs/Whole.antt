@@ -7,6 +7,7 @@ use Rattle.std.proofs.lemmas.Nat.{div_below}
 use Rattle.case_model.specs.declared.meshes.Mesh.{Mesh}
 use Rattle.case_model.specs.declared.meshes.PipeMesh.{PipeMesh}
 use Rattle.case_model.specs.Mesh.{no_pipe, reaches, IsMesh}
+use Rattle.regions.specs.declared.shapes.TheConstants.{WIDEST_WINDOW}
 use Rattle.regions.specs.declared.shapes.Layout.{Layout}
 use Rattle.regions.specs.Cuts.{window_of, windows_of, sections, section_reaches, cut, IsLimited}
 use Rattle.regions.specs.Layouts.{layout_of}
@@ -59,7 +60,7 @@ windows-few : (w steps : ℕ) → 1 ≤ w → steps ≤ 100000000 → windows_of
 unfolding windows_of
 windows-few w steps some few = let d = div_below (steps + (w - 1)) w (steps + 1) (omega arith) (grind arith) in omega arith
 
-pub whole : (steps wish : ℕ) (mesh : Mesh) → IsMesh mesh → IsLimited mesh → steps ≤ 100000000 → 1 ≤ wish → wish ≤ 64 → IsWhole (layout_of steps mesh wish)
+pub whole : (steps wish : ℕ) (mesh : Mesh) → IsMesh mesh → IsLimited mesh → steps ≤ 100000000 → 1 ≤ wish → wish ≤ WIDEST_WINDOW → IsWhole (layout_of steps mesh wish)
 whole steps wish mesh good limits few some most =
     let fit = fitted steps wish mesh good some in
     let is = window-is mesh wish in

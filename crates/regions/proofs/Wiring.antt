@@ -1,21 +1,19 @@
 -- In the mesh of a case each end in a node's list is found there again.
-use Rattle.std.proofs.Common.{◌≡◌, ℕ, zero, suc, ◌+◌, ◌*◌, ◌<◌, ◌≤◌, ◌==◌, ◌&&◌, not, Bool, true, false, List, [], ◌∷◌, length, get_or, Option, Some, None, refl, ap, subst, sym, ◌∙◌, arith, eq-eqb}
+use Rattle.std.proofs.Common.{◌≡◌, ℕ, zero, suc, ◌+◌, ◌*◌, ◌<◌, ◌≤◌, ◌==◌, ◌&&◌, not, Bool, true, false, List, [], ◌∷◌, length, get_or, refl, ap, subst, sym, ◌∙◌, arith, eq-eqb}
 use Rattle.std.specs.Prelude.{if◌then◌else◌}
 use Rattle.std.specs.List.{AllByRecursion, cons_option, list_any, position_or_len}
 use Rattle.std.proofs.lemmas.Bool.{eqb-true}
 use Rattle.std.proofs.lemmas.List.Elements.{All-from_recursion}
 use Rattle.std.proofs.lemmas.List.Folds.{list_any_at}
-use Rattle.std.proofs.lemmas.List.FromFn.{get_or-map-range_with_len, length-map-range_with_len}
 use Rattle.std.proofs.lemmas.List.Sums.{position_or_len_is}
 use Rattle.case_model.specs.declared.cases.Case.{Case}
 use Rattle.case_model.specs.declared.cases.Pipe.{Pipe}
 use Rattle.case_model.specs.declared.meshes.End.{End}
-use Rattle.case_model.specs.Division.{node_ends, pipe_mesh, mesh_of}
+use Rattle.case_model.specs.Division.{node_ends, mesh_of}
 use Rattle.case_model.specs.Ends.{end_if, ends_at}
-use Rattle.case_model.specs.Limits.{IsRead}
-use Rattle.case_model.specs.Mesh.{is_end, ends_of, end_node, end_index, places_before}
+use Rattle.case_model.specs.Mesh.{is_end, ends_of, end_node, end_index}
 use Rattle.case_model.specs.Parts.{no_pipe}
-use Rattle.regions.specs.Cuts.{IsLimited}
+use Rattle.case_model.proofs.Keeping.{parts}
 use Rattle.regions.specs.Sides.{no_end, end_at, IsWired}
 use Rattle.regions.proofs.Joining.{any-index, end-is}
 
@@ -96,31 +94,7 @@ ends-stand k index (p ∷ ps) whole same =
     (all_if (λ e. stands_at whole e.pipe e.at_last ≡ k) (p.last == k) index true (ends_at k (index + 1) ps) (λ t. ap (λ (q : Pipe). q.last) here ∙ eqb-true p.last k t)
     (ends-stand k (index + 1) ps whole (λ i h. ap (λ (m : ℕ). get_or whole m no_pipe) (omega arith) ∙ same (suc i) (omega arith))))
 
-length_if : (o : Option End) (xs : List End) → length (cons_option o xs) ≤ length xs + 1
-length_if None xs = omega arith
-length_if (Some x) xs = omega arith
-
-ends-few : (k index : ℕ) (ps : List Pipe) → length (ends_at k index ps) ≤ 2 * length ps
-ends-few k index [] = omega arith
-ends-few k index (p ∷ ps) =
-    let a = length_if (end_if (p.first == k) index false) (cons_option (end_if (p.last == k) index true) (ends_at k (index + 1) ps)) in
-    let b = length_if (end_if (p.last == k) index true) (ends_at k (index + 1) ps) in
-    let c = ends-few k (index + 1) ps in
-    omega arith
-
 -- ---- of the mesh of a case
-
-ends-are : (case : Case) (k : ℕ) → k < length case.nodes → ends_of (mesh_of case) k ≡ node_ends case k
-unfolding mesh_of
-ends-are case k h = get_or-map-range_with_len (node_ends case) 0 (length case.nodes) k k [] h (omega arith)
-
-ends-number : (case : Case) → length (mesh_of case).ends ≡ length case.nodes
-unfolding mesh_of
-ends-number case = length-map-range_with_len (node_ends case) 0 (length case.nodes)
-
-pipes-number : (case : Case) → length (mesh_of case).pipes ≡ length case.pipes
-unfolding mesh_of
-pipes-number case = length-map-range_with_len (pipe_mesh case) 0 (length case.pipes)
 
 stands : (case : Case) (k j : ℕ) → j < length (node_ends case k) → stands_at case.pipes (get_or (node_ends case k) j no_end).pipe (get_or (node_ends case k) j no_end).at_last ≡ k
 stands case k j h =
@@ -138,25 +112,25 @@ node_again : (case : Case) (k j : ℕ) → k < length case.nodes → j < length 
 node_again case k j h l =
     let e = get_or (node_ends case k) j no_end in
     let test = list_any (is_end e.pipe e.at_last) in
-    let n = ends-number case in
+    let n = (parts case).nodes in
     position_or_len_is test (mesh_of case).ends k [] (omega arith)
     (λ i b. not_true _ (λ t.
-    let s = only_there case i e.pipe e.at_last (subst (λ (xs : List End). test xs ≡ true) (ends-are case i (omega arith)) t) in
+    let s = only_there case i e.pipe e.at_last (subst (λ (xs : List End). test xs ≡ true) ((parts case).ends i (omega arith)) t) in
     let m = stands case k j l in
     absurd (omega arith)))
-    (λ b. subst (λ (xs : List End). test xs ≡ true) (sym (ends-are case k h)) (list_any_at (is_end e.pipe e.at_last) (node_ends case k) j no_end l (is_self e)))
+    (λ b. subst (λ (xs : List End). test xs ≡ true) (sym ((parts case).ends k h)) (list_any_at (is_end e.pipe e.at_last) (node_ends case k) j no_end l (is_self e)))
 
 wired_node : (case : Case) (k j : ℕ) → k < length (mesh_of case).ends → j < length (ends_of (mesh_of case) k) → end_node (mesh_of case) (end_at (mesh_of case) k j).pipe (end_at (mesh_of case) k j).at_last ≡ k
 wired_node case k j h l =
-    let b : k < length case.nodes = omega (arith, ends-number case) in
-    let s = ends-are case k b in
+    let b : k < length case.nodes = omega (arith, (parts case).nodes) in
+    let s = (parts case).ends k b in
     subst (λ (xs : List End). end_node (mesh_of case) (get_or xs j no_end).pipe (get_or xs j no_end).at_last ≡ k) (sym s)
     (node_again case k j b (subst (λ (xs : List End). j < length xs) s l))
 
 wired_index : (case : Case) (k j : ℕ) → k < length (mesh_of case).ends → j < length (ends_of (mesh_of case) k) → end_index (mesh_of case) (end_at (mesh_of case) k j).pipe (end_at (mesh_of case) k j).at_last ≡ j
 wired_index case k j h l =
-    let b : k < length case.nodes = omega (arith, ends-number case) in
-    let s = ends-are case k b in
+    let b : k < length case.nodes = omega (arith, (parts case).nodes) in
+    let s = (parts case).ends k b in
     let e = end_at (mesh_of case) k j in
     ap (λ (n : ℕ). position_or_len (is_end e.pipe e.at_last) (ends_of (mesh_of case) n)) (wired_node case k j h l)
     ∙ subst (λ (xs : List End). position_or_len (is_end (get_or xs j no_end).pipe (get_or xs j no_end).at_last) xs ≡ j) (sym s)
@@ -164,15 +138,3 @@ wired_index case k j h l =
 
 pub wired : (case : Case) → IsWired (mesh_of case)
 wired case = record { node = wired_node case; index = wired_index case }
-
-pub limited : (case : Case) → IsRead case → places_before (mesh_of case) (length (mesh_of case).pipes) ≤ 400000 → IsLimited (mesh_of case)
-limited case read few = record {
-  nodes = let l = read.few_nodes in let e = ends-number case in omega arith;
-  pipes = let l = read.few_pipes in let e = pipes-number case in omega arith;
-  places = few;
-  ends = λ k h.
-      let l = read.few_pipes in
-      let s = ap length (ends-are case k (omega (arith, ends-number case))) in
-      let f = ends-few k 0 case.pipes in
-      omega arith;
-}

@@ -1,5 +1,6 @@
 -- How pipes are cut into sections, and time into windows.
 use Rattle.std.specs.Prelude.{◌≡◌, ℕ, zero, suc, ◌+◌, ◌-◌, ◌/◌, ◌%◌, ◌<◌, ◌≤◌, ◌⊎◌, min, max, nat_lt, if◌then◌else◌, List, length, fold}
+use Rattle.case_model.specs.declared.meshes.TheConstants.{MOST_ENDS}
 use Rattle.case_model.specs.declared.meshes.Mesh.{Mesh}
 use Rattle.case_model.specs.declared.meshes.PipeMesh.{PipeMesh}
 use Rattle.case_model.specs.Mesh.{reaches, ends_of, places_before}
@@ -16,7 +17,7 @@ window_of mesh wish = least_reaches wish mesh.pipes
 unfoldable pub windows_of : ℕ → ℕ → ℕ
 windows_of w steps = (steps + (w - 1)) / w
 
--- the count of sections of a pipe with n reaches: each is to have at least w reaches, and at least 2
+-- the count of sections of a pipe with n reaches: each is to have at least w reaches, and 2
 unfoldable pub sections : ℕ → ℕ → ℕ
 sections w n = max 1 (n / max 2 w)
 
@@ -40,4 +41,5 @@ pub record IsLimited (mesh : Mesh) : Type 0 where
   pub nodes : length mesh.ends ≤ 4_096
   pub pipes : length mesh.pipes ≤ 4_096
   pub places : places_before mesh (length mesh.pipes) ≤ 400_000
-  pub ends : (k : ℕ) → k < length mesh.ends → length (ends_of mesh k) ≤ 8_192
+  pub some_ends : (k : ℕ) → k < length mesh.ends → 1 ≤ length (ends_of mesh k)
+  pub few_ends : (k : ℕ) → k < length mesh.ends → length (ends_of mesh k) ≤ MOST_ENDS

@@ -1,5 +1,6 @@
 pub mod Blocks
 pub mod Cuts
+pub mod LaidOut
 pub mod Layouts
 pub mod Needs
 pub mod Numbers

@@ -1,6 +1,8 @@
+//! How pipes are cut into sections, and time into windows.
 ghost use Rattle.std.specs.Prelude.{◌≡◌, ◌+◌, ◌<◌, ◌≤◌};
 ghost use Rattle.regions.specs.Cuts.{IsWindow, window_of, windows_of, cut, sections as sections_are, section_reaches as reaches_are};
 
+use crate::WIDEST_WINDOW;
 use case_model::Mesh;
 
 /// How many steps a window has: the least of the wish and the counts of reaches of all pipes.
@@ -20,7 +22,7 @@ pub(crate) fn window(mesh: &Mesh, wish: u64) -> u64
 #[tactic(auto, unfolding(crate::specs::Cuts::windows_of))]
 pub(crate) fn windows(window: u64, steps: u64) -> u64
     requires some { 0 < window }
-    requires few { window ≤ 64 }
+    requires few { window ≤ WIDEST_WINDOW }
     requires steps { steps ≤ 100_000_000 }
     ensures { result ≡ windows_of window steps }
 {
@@ -47,7 +49,8 @@ pub(crate) fn section_reaches(window: u64, reaches: u32, index: u32) -> u32
     reaches / count + extra
 }
 
-/// The place where the next section begins, of the place where section `index` of such a pipe begins.
+/// The place where the next section begins, of the place where section `index` of such a pipe
+/// begins.
 pub(crate) fn next_cut(window: u64, reaches: u32, index: u32, place: u32) -> u32
     requires two { 2 ≤ reaches }
     requires index { index < sections_are window reaches }

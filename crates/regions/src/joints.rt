@@ -1,3 +1,4 @@
+//! The nodes where pipes end.
 ghost use Rattle.std.specs.Prelude.{◌≡◌, ◌≤◌, ◌^◌, ◌<◌, length};
 ghost use Rattle.std.specs.List.{list_any, position_or_len};
 ghost use Rattle.case_model.specs.Mesh.{is_end as end_is_of, end_node, end_index};

@@ -13,11 +13,8 @@ mod shapes;
 mod sides;
 
 pub use laws::{
-    blocks_are_in_order, cuts_follow_the_window, division_is_wired, layouts_are_whole,
-    needs_are_enough, regions_are_a_partition, sides_are_mutual,
+    accepted_meshes_are_sound, blocks_are_in_order, cuts_follow_the_window, layouts_are_sound,
+    needs_are_enough, reads_are_all, regions_are_a_partition, sides_are_mutual,
 };
 pub use layouts::layout;
-pub use shapes::{Layout, Shape, Spot};
-
-#[cfg(test)]
-mod tests;
+pub use shapes::{Layout, Shape, Spot, WIDEST_WINDOW};

@@ -1,5 +1,8 @@
+//! The parts of space and time in a section.
 ghost use Rattle.std.specs.Prelude.{◌≡◌, ◌<◌, ◌≤◌, ◌↔◌, IsTrue};
-ghost use Rattle.regions.specs.Regions.{tall as tall_is, InStation, InSection, part_of as part_is};
+ghost use Rattle.regions.specs.Regions.{InStation, InSection, part_of as part_is};
+
+use crate::WIDEST_WINDOW;
 
 /// Which part of space and time has a place of a section at a step.
 #[derive(Clone, Copy)]
@@ -14,7 +17,7 @@ pub(crate) enum Part {
 
 /// Whether a point at this distance from a station is in the station's region.
 pub(crate) fn in_station(window: u64, region: u64, distance: u32, step: u64) -> bool
-    requires window { window ≤ 64 }
+    requires window { window ≤ WIDEST_WINDOW }
     requires region { region ≤ 100_000_000 }
     ensures { IsTrue result ↔ InStation window region distance step }
 {
@@ -27,7 +30,7 @@ pub(crate) fn in_station(window: u64, region: u64, distance: u32, step: u64) -> 
 #[tactic(auto, unfolding(crate::specs::Regions::part_of, crate::specs::Regions::part_from))]
 pub(crate) fn part_of(window: u64, reaches: u32, place: u32, step: u64) -> Part
     requires window { 0 < window }
-    requires few { window ≤ 64 }
+    requires few { window ≤ WIDEST_WINDOW }
     requires inside { place ≤ reaches }
     ensures { result ≡ part_is window reaches place step }
 {
@@ -46,10 +49,11 @@ pub(crate) fn part_of(window: u64, reaches: u32, place: u32, step: u64) -> Part
     }
 }
 
-/// Whether an inner place of a section, of so many reaches, is in this region of the section at a step.
+/// Whether an inner place of a section, of so many reaches, is in this region of the section at a
+/// step.
 pub(crate) fn in_section(window: u64, reaches: u32, region: u64, place: u32, step: u64) -> bool
     requires window { 0 < window }
-    requires few { window ≤ 64 }
+    requires few { window ≤ WIDEST_WINDOW }
     requires long { window ≤ reaches }
     requires after { 0 < place }
     requires before { place < reaches }

@@ -1,4 +1,8 @@
+//! Strands, layouts and spots.
 use case_model::List;
+
+/// The most steps that a window has.
+pub const WIDEST_WINDOW: u64 = 256;
 
 /// What a strand is. `left` and `right` are numbers of strands.
 #[derive(Clone, Copy, Debug, PartialEq, Eq)]

@@ -1,6 +1,8 @@
+//! The neighbours of strands.
 ghost use Rattle.std.specs.Prelude.{◌≡◌, ◌<◌, ◌==◌, if◌then◌else◌, length};
-ghost use Rattle.case_model.specs.Mesh.{IsMesh, ends_of as ends_are};
+ghost use Rattle.case_model.specs.Mesh.{ends_of as ends_are};
 ghost use Rattle.regions.specs.Cuts.{IsLimited};
+ghost use Rattle.regions.specs.LaidOut.{IsLaidOut};
 ghost use Rattle.regions.specs.Sides.{no_end, end_at as end_is, section_at_end as section_is, shape_at as shape_is, side_of_station as side_is, sides_of, side_of, back_of};
 
 use crate::cuts::sections;
@@ -14,7 +16,7 @@ impl Layout {
     #[tactic(auto, unfolding(crate::specs::Sides::sides_of))]
     pub fn sides(&self, mesh: &Mesh, strand: u32) -> u32
         requires inside { strand < length self.now.shapes }
-        requires limits { IsLimited mesh.now }
+        requires laid_out { IsLaidOut self.now mesh.now }
         ensures { result ≡ sides_of self.now mesh.now strand }
     {
         match self.shape_at(strand) {
@@ -24,14 +26,13 @@ impl Layout {
         }
     }
 
-    /// The neighbour of a strand at this index, by number: of a node the section at that end, of others
-    /// the left and then the right one.
+    /// The neighbour of a strand at this index, by number: of a node the section at that end, of
+    /// others the left and then the right one.
     #[tactic(auto, unfolding(crate::specs::Sides::side_of, crate::specs::Sides::sides_of))]
     pub fn side(&self, mesh: &Mesh, strand: u32, index: u32) -> u32
         requires inside { strand < length self.now.shapes }
         requires index { index < sides_of self.now mesh.now strand }
-        requires mesh { IsMesh mesh.now }
-        requires limits { IsLimited mesh.now }
+        requires laid_out { IsLaidOut self.now mesh.now }
         ensures { result ≡ side_of self.now mesh.now strand index }
     {
         match self.shape_at(strand) {
@@ -46,8 +47,7 @@ impl Layout {
     pub fn back(&self, mesh: &Mesh, strand: u32, index: u32) -> u32
         requires inside { strand < length self.now.shapes }
         requires index { index < sides_of self.now mesh.now strand }
-        requires mesh { IsMesh mesh.now }
-        requires limits { IsLimited mesh.now }
+        requires laid_out { IsLaidOut self.now mesh.now }
         ensures { result ≡ back_of self.now mesh.now strand index }
     {
         match self.shape_at(strand) {
@@ -78,7 +78,8 @@ impl Layout {
         }
     }
 
-    // Which side of a station the section of this pipe is that ends there, at its last place or its first.
+    // Which side of a station the section of this pipe is that ends there, at its last place or its
+    // first.
     fn side_of_station(&self, mesh: &Mesh, pipe: u32, last: bool, station: u32) -> u32
         requires { IsLimited mesh.now }
         ensures { result ≡ side_is mesh.now pipe last (shape_is self.now station) }
@@ -91,6 +92,7 @@ impl Layout {
     }
 }
 
+// How many ends a node has.
 fn count_ends(mesh: &Mesh, node: u32) -> u32
     requires { IsLimited mesh.now }
     ensures { result ≡ length (ends_are mesh.now node) }
@@ -101,6 +103,7 @@ fn count_ends(mesh: &Mesh, node: u32) -> u32
     }
 }
 
+// The end of a node at this index.
 fn end_at(mesh: &Mesh, node: u32, index: u32) -> End
     requires { index < length (ends_are mesh.now node) }
     ensures end { result ≡ end_is mesh.now node index }
@@ -124,6 +127,7 @@ fn section_at_end(mesh: &Mesh, window: u64, end: End) -> u32
     }
 }
 
+// The first for index 0, else the second.
 fn either(index: u32, first: u32, second: u32) -> u32
     ensures { result ≡ (if index == 0 then first else second) }
 {

@@ -1,3 +1,4 @@
+use Rattle.regions.proofs.Sound.{windows_hold, windows_end}
 use Rattle.regions.proofs.Cutting.{cut-last, reaches-long, reaches-even}
 use Rattle.regions.proofs.Windowed.{window-is}
 use Rattle.regions.proofs.laws.cuts_follow_the_window.Goals as goal
@@ -13,3 +14,9 @@ returns-clause-each c = reaches-long
 
 pub returns-clause-even : goal.returns-clause-even
 returns-clause-even c = reaches-even
+
+pub returns-clause-steps : goal.returns-clause-steps
+returns-clause-steps c = windows_hold
+
+pub returns-clause-last : goal.returns-clause-last
+returns-clause-last c = windows_end

@@ -1,5 +1,5 @@
-use Rattle.regions.proofs.Needing.{enough}
+use Rattle.regions.proofs.Sound.{laid_enough}
 use Rattle.regions.proofs.laws.needs_are_enough.Goals as goal
 
 pub returns : goal.returns
-returns c = enough
+returns c = laid_enough
