@@ -13,12 +13,12 @@ use Rattle.case_model.specs.declared.points.Point.{Point}
 use Rattle.case_model.specs.declared.points.Point.TheVariants.{Good, Bad}
 use Rattle.case_model.specs.declared.states.NodeState.{NodeState}
 use Rattle.case_model.specs.declared.states.NodeState.TheVariants.{Good as GoodState, Bad as BadState}
-use Rattle.case_model.specs.FaultLaws.{first_fault-only, first_fault-None, first_fault-none_bad, first_fault-Some}
+use Rattle.case_model.proofs.FaultLaws.{first_fault-only, first_fault-None, first_fault-none_bad, first_fault-Some}
 use Rattle.case_model.specs.FirstFault.{first_fault, IsFirstFault}
 use Rattle.case_model.specs.Meaning.{Meaning}
 use Rattle.case_model.specs.Mesh.{IsNumbered}
 use Rattle.case_model.specs.Parts.{no_probe, probe_at}
-use Rattle.case_model.specs.PlaceLaws.{bad-at_node, bad-at_place, length-bad_places}
+use Rattle.case_model.proofs.PlaceLaws.{bad-at_node, bad-at_place, length-bad_places}
 use Rattle.case_model.specs.Places.{is_bad, is_bad_state, bad_places}
 use Rattle.case_model.specs.Rows.{Row, row}
 use Rattle.case_model.specs.Samples.{Sample, taken_at, point_sample, node_sample, sample, IsEnvelope}
