@@ -200,22 +200,22 @@ below rules n f line number t =
     let s : a.1 ≡ a.0 = sym a.3 ∙ get_or-range_with_len 0 n a.0 a.1 l ∙ omega arith in
     f a.1 (omega arith) line number a.4
 
-moved : (l m : ℕ) (breaks others : ℕ → Bool) → ((n : ℕ) → others n ≡ breaks n) → IsEmpty (on_line l breaks) → IsEmpty (on_line m others)
+pub moved : (l m : ℕ) (breaks others : ℕ → Bool) → ((n : ℕ) → others n ≡ breaks n) → IsEmpty (on_line l breaks) → IsEmpty (on_line m others)
 moved l m breaks others s e line number t = e l number (and_from (l == l) (breaks number) (eq-eqb l l refl) (sym (s number) ∙ (and_parts (m == line) (others number) t).1))
 
-left_empty : (a b : Rules) → IsEmpty (either a b) → IsEmpty a
+pub left_empty : (a b : Rules) → IsEmpty (either a b) → IsEmpty a
 left_empty a b e line number t = e line number (or_left (a line number) (b line number) t)
 
-right_empty : (a b : Rules) → IsEmpty (either a b) → IsEmpty b
+pub right_empty : (a b : Rules) → IsEmpty (either a b) → IsEmpty b
 right_empty a b e line number t = e line number (or_right (a line number) (b line number) t)
 
-both_empty : (a b : Rules) → IsEmpty a → IsEmpty b → IsEmpty (either a b)
+pub both_empty : (a b : Rules) → IsEmpty a → IsEmpty b → IsEmpty (either a b)
 both_empty a b e f line number t = elim (or_cases (a line number) (b line number) t) [
   | inl h ↦ e line number h
   | inr h ↦ f line number h
 ]
 
-all_moved : (rules others : ℕ → Rules) (n m : ℕ) → m ≡ n → ((k : ℕ) → IsEmpty (rules k) → IsEmpty (others k)) → IsEmpty (any_below rules n) → IsEmpty (any_below others m)
+pub all_moved : (rules others : ℕ → Rules) (n m : ℕ) → m ≡ n → ((k : ℕ) → IsEmpty (rules k) → IsEmpty (others k)) → IsEmpty (any_below rules n) → IsEmpty (any_below others m)
 all_moved rules others n m s f e = below others m (λ k l. f k (above rules n k e (omega arith)))
 
 parts_empty : (case : Case) → IsEmpty (part_rules case) → IsEmpty (part_rules (renumbered case))
