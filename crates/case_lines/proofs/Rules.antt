@@ -6,7 +6,7 @@ use Rattle.case_model.specs.declared.cases.TableKind.{TableKind}
 use Rattle.case_model.specs.declared.cases.TableKind.TheVariants.{Heads, Flows, Openings, Speeds, Curve, Gas}
 use Rattle.case_lines.specs.declared.words.Directive.{Directive}
 use Rattle.case_lines.specs.declared.words.Directive.TheVariants.{OfTable}
-use Rattle.case_lines.specs.Words.{directive_of}
+use Rattle.case_lines.specs.Words.{directive_of, directive_in}
 use Rattle.case_lines.specs.Fields.{field, has_count}
 use Rattle.case_lines.specs.Alone.{breaks_counted, breaks_known, breaks_alone}
 use Rattle.case_lines.proofs.Ranges.{least_same}
@@ -28,7 +28,10 @@ pub known_counted : (d : Directive) (fields : List (List ℕ)) (o : Option ℕ) 
 known_counted d fields o h f = least_same (breaks_counted d fields) (breaks_known (Some d) fields) o (λ n. rw h refl) f
 
 -- a line behind the first that has fields
-pub alone_known : (line : ℕ) (fields : List (List ℕ)) (o : Option ℕ) → (line == 1) ≡ false → (length fields == 0) ≡ false →
-    FindsLeast (breaks_known (directive_of (field fields 0)) fields) o → FindsLeast (breaks_alone line fields) o
+pub alone_known : (version line : ℕ) (fields : List (List ℕ)) (o : Option ℕ) → (line == 1) ≡ false → (length fields == 0) ≡ false →
+    FindsLeast (breaks_known (directive_in version (directive_of (field fields 0))) fields) o →
+    FindsLeast (breaks_alone version line fields) o
 unfolding breaks_alone
-alone_known line fields o h k f = least_same (breaks_known (directive_of (field fields 0)) fields) (breaks_alone line fields) o (λ n. rw (h, k) refl) f
+alone_known version line fields o h k f =
+    least_same (breaks_known (directive_in version (directive_of (field fields 0))) fields)
+    (breaks_alone version line fields) o (λ n. rw (h, k) refl) f

@@ -2,11 +2,12 @@
 -- 5 number out of limits, 10 too many or too long, 14 table order.
 use Rattle.std.specs.Prelude.{ℕ, ◌-◌, ◌==◌, ◌&&◌, ◌||◌, not, nat_lt, Bool, false, Option, Some, None, if◌then◌else◌, List, length}
 use Rattle.std.specs.List.{list_any, range_with_len}
+use Rattle.std.specs.Option.{is_some}
 use Rattle.case_lines.specs.declared.words.Directive.{Directive}
 use Rattle.case_lines.specs.declared.quantities.Quantity.{Quantity}
 use Rattle.case_lines.specs.declared.fields.FieldKind.{FieldKind}
-use Rattle.case_lines.specs.declared.fields.FieldKind.TheVariants.{NewName, NodeName, PipeName, Reference, Number, Value}
-use Rattle.case_lines.specs.Words.{directive_of}
+use Rattle.case_lines.specs.declared.fields.FieldKind.TheVariants.{NewName, NodeName, PipeName, Reference, Number, Value, FrictionWord}
+use Rattle.case_lines.specs.Words.{directive_of, directive_in, friction_of}
 use Rattle.case_lines.specs.Quantities.{limits, quantity_in, is_spelt, is_outside}
 use Rattle.case_lines.specs.Fields.{field, is_heading, is_name, is_marked, is_reference, field_kind, has_count, has_too_many}
 use Rattle.case_lines.specs.Tables.{is_disordered}
@@ -25,6 +26,10 @@ breaks_number quantity text number =
     ((number == 4) && not (is_spelt (quantity_in quantity text)))
     || ((number == 5) && is_outside (limits quantity) (quantity_in quantity text))
 
+-- the rules that a word on friction breaks: it says no way to take it
+unfoldable pub breaks_friction : List ℕ → ℕ → Bool
+breaks_friction text number = (number == 4) && not (is_some (friction_of text))
+
 -- the rules that a field breaks
 unfoldable pub breaks_field : FieldKind → List ℕ → ℕ → Bool
 breaks_field NewName text number = breaks_name text number
@@ -32,7 +37,9 @@ breaks_field NodeName text number = breaks_name text number
 breaks_field PipeName text number = breaks_name text number
 breaks_field (Reference kind) text number = breaks_reference text number
 breaks_field (Number quantity) text number = breaks_number quantity text number
-breaks_field (Value quantity kind) text number = if is_marked text then breaks_reference text number else breaks_number quantity text number
+breaks_field (Value quantity kind) text number =
+    if is_marked text then breaks_reference text number else breaks_number quantity text number
+breaks_field FrictionWord text number = breaks_friction text number
 
 -- the rules that the first n fields behind the word of a line break
 unfoldable pub breaks_fields : Directive → List (List ℕ) → ℕ → ℕ → Bool
@@ -54,9 +61,10 @@ abbrev pub breaks_known : Option Directive → List (List ℕ) → ℕ → Bool
 breaks_known None fields number = number == 2
 breaks_known (Some directive) fields number = if has_count directive (length fields) then breaks_counted directive fields number else number == 3
 
--- the rules that a line breaks by itself, by its number in the text; a line without fields breaks none behind line 1
-unfoldable pub breaks_alone : ℕ → List (List ℕ) → ℕ → Bool
-breaks_alone line fields number =
+-- the rules that a line breaks by itself, by the version of the text and its number in the text; a
+-- line without fields breaks none behind line 1
+unfoldable pub breaks_alone : ℕ → ℕ → List (List ℕ) → ℕ → Bool
+breaks_alone version line fields number =
     if line == 1 then (number == 1) && not (is_heading fields)
     else if length fields == 0 then false
-    else breaks_known (directive_of (field fields 0)) fields number
+    else breaks_known (directive_in version (directive_of (field fields 0))) fields number

@@ -7,23 +7,32 @@ use Rattle.case_model.specs.declared.cases.TableKind.{TableKind}
 use Rattle.case_model.specs.declared.cases.TableKind.TheVariants.{Heads, Flows, Openings, Speeds, Curve, Gas}
 use Rattle.case_model.specs.Limits.{least_entries, most_entries}
 use Rattle.case_lines.specs.declared.words.Single.{Single}
-use Rattle.case_lines.specs.declared.words.Single.TheVariants.{Step, Steps, Vapour, Weight, Tolerance, Every}
+use Rattle.case_lines.specs.declared.words.Single.TheVariants.{Step, Steps, Vapour, Weight, Tolerance, Every, FrictionForm}
 use Rattle.case_lines.specs.declared.words.NodeWord.{NodeWord}
 use Rattle.case_lines.specs.declared.words.NodeWord.TheVariants.{Reservoir, Junction, Discharge, Inline, Pump, Tank, Vessel}
 use Rattle.case_lines.specs.declared.words.Directive.{Directive}
 use Rattle.case_lines.specs.declared.words.Directive.TheVariants.{OfSingle, OfTable, OfNode, OfPipe, OfProbe, OfWatch}
 use Rattle.case_lines.specs.declared.quantities.Quantity.{Quantity}
-use Rattle.case_lines.specs.declared.quantities.Quantity.TheVariants.{TimeStep, StepCount, VapourHead, GrowthWeight, SpeedTolerance, SampleStep, Time, Head, Flow, Opening, SpeedRatio, CurveFlow, CurveRise, Volume, Elevation, ValveFlow, ValveLoss, Area, Length, Diameter, WaveSpeed, Friction, PipePlace}
+use Rattle.case_lines.specs.declared.quantities.Quantity.TheVariants.{TimeStep, StepCount, VapourHead, GrowthWeight, SpeedTolerance, SampleStep, Time, Head, Flow, Opening, SpeedRatio, CurveFlow, CurveRise, Volume, Elevation, ValveFlow, ValveLoss, Area, Length, Diameter, WaveSpeed, FrictionFactor, PipePlace}
 use Rattle.case_lines.specs.declared.fields.FieldKind.{FieldKind}
-use Rattle.case_lines.specs.declared.fields.FieldKind.TheVariants.{NewName, NodeName, PipeName, Reference, Number, Value}
+use Rattle.case_lines.specs.declared.fields.FieldKind.TheVariants.{NewName, NodeName, PipeName, Reference, Number, Value, FrictionWord}
 
 -- a field by its place, counted from 0; an empty one where there is none
 abbrev pub field : List (List ℕ) → ℕ → List ℕ
 field fields k = slice_index_or fields k []
 
--- the two fields of the first line
+-- the number of a version of the case text, as its first line gives it
+abbrev pub is_version : List ℕ → Bool
+is_version text = bytes_eq text (codes "1") || bytes_eq text (codes "2")
+
+-- the two fields of the first line: the word of the case text, and the version
 abbrev pub is_heading : List (List ℕ) → Bool
-is_heading fields = (length fields == 2) && bytes_eq (field fields 0) (codes "surge") && bytes_eq (field fields 1) (codes "1")
+is_heading fields =
+    (length fields == 2) && bytes_eq (field fields 0) (codes "surge") && is_version (field fields 1)
+
+-- the version that the first line decides
+unfoldable pub heading_version : List (List ℕ) → ℕ
+heading_version fields = if bytes_eq (field fields 1) (codes "2") then 2 else 1
 
 abbrev pub is_name_byte : ℕ → Bool
 is_name_byte b = is_ascii_alphanumeric b || (b == 95) || (b == 45) || (b == 46)
@@ -45,14 +54,15 @@ referred (mark ∷ name) = name
 abbrev pub is_reference : List ℕ → Bool
 is_reference text = is_marked text && is_name (referred text)
 
--- what a single directive gives
-abbrev pub single_quantity : Single → Quantity
-single_quantity Step = TimeStep
-single_quantity Steps = StepCount
-single_quantity Vapour = VapourHead
-single_quantity Weight = GrowthWeight
-single_quantity Tolerance = SpeedTolerance
-single_quantity Every = SampleStep
+-- what the field of a single directive must be
+abbrev pub single_field : Single → FieldKind
+single_field Step = Number TimeStep
+single_field Steps = Number StepCount
+single_field Vapour = Number VapourHead
+single_field Weight = Number GrowthWeight
+single_field Tolerance = Number SpeedTolerance
+single_field Every = Number SampleStep
+single_field FrictionForm = FrictionWord
 
 -- what the first and the second numbers of the pairs of a table are
 abbrev pub first_quantity : TableKind → Quantity
@@ -83,7 +93,7 @@ node_fields Vessel = Reference Gas ∷ Number Volume ∷ []
 
 -- name, first node, last node, length, diameter, wave speed, friction and start flow of a pipe
 abbrev pub pipe_fields : List FieldKind
-pipe_fields = NewName ∷ NodeName ∷ NodeName ∷ Number Length ∷ Number Diameter ∷ Number WaveSpeed ∷ Number Friction ∷ Number Flow ∷ []
+pipe_fields = NewName ∷ NodeName ∷ NodeName ∷ Number Length ∷ Number Diameter ∷ Number WaveSpeed ∷ Number FrictionFactor ∷ Number Flow ∷ []
 
 -- pipe and place of a probe
 abbrev pub probe_fields : List FieldKind
@@ -104,7 +114,7 @@ node_field node k =
 
 -- what the field at place k of a line must be, counted from the word at place 0
 unfoldable pub field_kind : Directive → ℕ → FieldKind
-field_kind (OfSingle single) k = Number (single_quantity single)
+field_kind (OfSingle single) k = single_field single
 field_kind (OfTable kind) k = table_field kind k
 field_kind (OfNode node) k = node_field node k
 field_kind OfPipe k = slice_index_or pipe_fields (k - 1) NewName

@@ -5,7 +5,7 @@ use Rattle.fixed_num.specs.declared.decimal.NumberFault.{NumberFault}
 use Rattle.fixed_num.specs.declared.decimal.NumberFault.TheVariants.{Spelling, Places, Large}
 use Rattle.case_lines.specs.declared.quantities.NumberLimits.{NumberLimits}
 use Rattle.case_lines.specs.declared.quantities.Quantity.{Quantity}
-use Rattle.case_lines.specs.declared.quantities.Quantity.TheVariants.{TimeStep, StepCount, VapourHead, GrowthWeight, SpeedTolerance, SampleStep, Time, Head, Flow, Opening, SpeedRatio, CurveFlow, CurveRise, Volume, Elevation, ValveFlow, ValveLoss, Area, Length, Diameter, WaveSpeed, Friction, PipePlace}
+use Rattle.case_lines.specs.declared.quantities.Quantity.TheVariants.{TimeStep, StepCount, VapourHead, GrowthWeight, SpeedTolerance, SampleStep, Time, Head, Flow, Opening, SpeedRatio, CurveFlow, CurveRise, Volume, Elevation, ValveFlow, ValveLoss, Area, Length, Diameter, WaveSpeed, FrictionFactor, PipePlace}
 
 abbrev pub limited : ℕ → ℤ → ℤ → NumberLimits
 limited places least most = record { places = places; least = least; most = most }
@@ -33,7 +33,7 @@ limits Area = limited 6 (pos 1) (pos 1_000_000_000)
 limits Length = limited 3 (pos 1) (pos 1_000_000_000)
 limits Diameter = limited 3 (pos 20) (pos 10_000)
 limits WaveSpeed = limited 3 (pos 10_000) (pos 2_000_000)
-limits Friction = limited 6 (pos 0) (pos 500_000)
+limits FrictionFactor = limited 6 (pos 0) (pos 500_000)
 limits PipePlace = limited 0 (pos 0) (pos 65_536)
 
 -- the number that a field gives for a quantity, in its unit

@@ -1,10 +1,12 @@
 -- The words with which lines begin.
-use Rattle.std.specs.Prelude.{ℕ, Option, Some, None, if◌then◌else◌, List, codes}
+use Rattle.std.specs.Prelude.{ℕ, ◌==◌, not, Bool, true, Option, Some, None, if◌then◌else◌, List, codes}
 use Rattle.std.specs.Str.{bytes_eq}
+use Rattle.case_model.specs.declared.cases.Friction.{Friction}
+use Rattle.case_model.specs.declared.cases.Friction.TheVariants.{Explicit, Linear}
 use Rattle.case_model.specs.declared.cases.TableKind.{TableKind}
 use Rattle.case_model.specs.declared.cases.TableKind.TheVariants.{Heads, Flows, Openings, Speeds, Curve, Gas}
 use Rattle.case_lines.specs.declared.words.Single.{Single}
-use Rattle.case_lines.specs.declared.words.Single.TheVariants.{Step, Steps, Vapour, Weight, Tolerance, Every}
+use Rattle.case_lines.specs.declared.words.Single.TheVariants.{Step, Steps, Vapour, Weight, Tolerance, Every, FrictionForm}
 use Rattle.case_lines.specs.declared.words.NodeWord.{NodeWord}
 use Rattle.case_lines.specs.declared.words.NodeWord.TheVariants.{Reservoir, Junction, Discharge, Inline, Pump, Tank, Vessel}
 use Rattle.case_lines.specs.declared.words.Directive.{Directive}
@@ -19,6 +21,7 @@ single_of word =
     else if bytes_eq word (codes "weight") then Some Weight
     else if bytes_eq word (codes "tolerance") then Some Tolerance
     else if bytes_eq word (codes "every") then Some Every
+    else if bytes_eq word (codes "friction") then Some FrictionForm
     else None
 
 -- the kind of table of this word, if any
@@ -64,6 +67,36 @@ abbrev pub single_or_other : Option Single → List ℕ → Option Directive
 single_or_other (Some single) word = Some (OfSingle single)
 single_or_other None word = table_or_other (table_of word) word
 
--- the directive of this word, if any
+-- the directive of this word in whatever version, if any
 unfoldable pub directive_of : List ℕ → Option Directive
 directive_of word = single_or_other (single_of word) word
+
+-- whether a version of the case text has a directive: version 1 has none on friction
+abbrev pub has_single : ℕ → Single → Bool
+has_single version Step = true
+has_single version Steps = true
+has_single version Vapour = true
+has_single version Weight = true
+has_single version Tolerance = true
+has_single version Every = true
+has_single version FrictionForm = not (version == 1)
+
+abbrev pub has_directive : ℕ → Directive → Bool
+has_directive version (OfSingle single) = has_single version single
+has_directive version (OfTable kind) = true
+has_directive version (OfNode node) = true
+has_directive version OfPipe = true
+has_directive version OfProbe = true
+has_directive version OfWatch = true
+
+-- a directive where a version of the case text has it
+abbrev pub directive_in : ℕ → Option Directive → Option Directive
+directive_in version None = None
+directive_in version (Some directive) = if has_directive version directive then Some directive else None
+
+-- how friction is taken, by its word, if any
+unfoldable pub friction_of : List ℕ → Option Friction
+friction_of word =
+    if bytes_eq word (codes "explicit") then Some Explicit
+    else if bytes_eq word (codes "linear") then Some Linear
+    else None

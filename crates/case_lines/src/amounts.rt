@@ -1,3 +1,4 @@
+//! Numbers that fields give.
 ghost use Rattle.std.specs.Prelude.{◌≡◌, ◌≤◌, unsigned_abs, IfOk, not, ◌&&◌, int_le};
 ghost use Rattle.case_lines.specs.Quantities.{quantity_in as quantity_says, is_spelt as is_spelled, is_outside as lies_outside, number_or_zero as number_of_result, amount as amount_of};
 

@@ -1,3 +1,4 @@
+//! How many fields a line must have.
 ghost use Rattle.std.specs.Prelude.{◌≡◌, ◌+◌, ◌*◌, ◌%◌, ◌==◌, ◌&&◌, ◌≤◌, nat_lt, nat_le, length};
 ghost use Rattle.case_model.specs.Limits.{least_entries, most_entries};
 ghost use Rattle.case_lines.specs.Fields.{has_count as is_counted, has_too_many as is_over};

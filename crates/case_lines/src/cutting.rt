@@ -1,3 +1,4 @@
+//! The lines of a text and the fields of a line.
 ghost use Rattle.std.specs.Prelude.{◌≡◌, ◌-◌, ◌==◌, ◌<◌, ◌≤◌, ◌∷◌, ◌++◌, [], if◌then◌else◌, MatchOption, IfNone, IfOk, length, map, take, filter, slice_index_or};
 ghost use Rattle.std.specs.List.{slice_split, position_or_len};
 ghost use Rattle.case_lines.specs.Texts.{text_lines, without_return as returned, without_comment as uncommented, is_blank as blank, is_some as has_bytes, parts_of as parts, fields_of as fields};

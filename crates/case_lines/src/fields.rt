@@ -1,5 +1,6 @@
+//! What the fields of a line must be, by the word with which it begins.
 ghost use Rattle.std.specs.Prelude.{◌≡◌, ◌-◌, ◌==◌, slice_index_or, if◌then◌else◌};
-ghost use Rattle.case_lines.specs.Fields.{single_quantity as quantity_of_single, first_quantity as first_of, second_quantity as second_of, node_fields as node_needs, pipe_fields as pipe_needs, probe_fields as probe_needs, table_field as table_needs, node_field as node_needs_at, field_kind as needs};
+ghost use Rattle.case_lines.specs.Fields.{single_field, first_quantity, second_quantity, node_fields, pipe_fields, probe_fields, table_field, node_field, field_kind};
 
 use crate::quantities::Quantity;
 use crate::words::{Directive, NodeWord, Single};
@@ -20,25 +21,28 @@ pub enum FieldKind {
     Number(Quantity),
     /// A number, or a reference to a table of this kind.
     Value(Quantity, TableKind),
+    /// A word on how friction is taken.
+    FrictionWord,
 }
 
-/// What a single directive gives.
-pub fn single_quantity(single: Single) -> Quantity
-    ensures { result ≡ quantity_of_single single }
+// What the field of a single directive must be.
+fn single_field(single: Single) -> FieldKind
+    ensures { result ≡ single_field single }
 {
     match single {
-        Single::Step => Quantity::TimeStep,
-        Single::Steps => Quantity::StepCount,
-        Single::Vapour => Quantity::VapourHead,
-        Single::Weight => Quantity::GrowthWeight,
-        Single::Tolerance => Quantity::SpeedTolerance,
-        Single::Every => Quantity::SampleStep,
+        Single::Step => FieldKind::Number(Quantity::TimeStep),
+        Single::Steps => FieldKind::Number(Quantity::StepCount),
+        Single::Vapour => FieldKind::Number(Quantity::VapourHead),
+        Single::Weight => FieldKind::Number(Quantity::GrowthWeight),
+        Single::Tolerance => FieldKind::Number(Quantity::SpeedTolerance),
+        Single::Every => FieldKind::Number(Quantity::SampleStep),
+        Single::FrictionForm => FieldKind::FrictionWord,
     }
 }
 
 /// What the first numbers of the pairs of a table are.
 pub fn first_quantity(kind: TableKind) -> Quantity
-    ensures { result ≡ first_of kind }
+    ensures { result ≡ first_quantity kind }
 {
     match kind {
         TableKind::Heads => Quantity::Time,
@@ -52,7 +56,7 @@ pub fn first_quantity(kind: TableKind) -> Quantity
 
 /// What the second numbers of the pairs of a table are.
 pub fn second_quantity(kind: TableKind) -> Quantity
-    ensures { result ≡ second_of kind }
+    ensures { result ≡ second_quantity kind }
 {
     match kind {
         TableKind::Heads => Quantity::Head,
@@ -111,7 +115,7 @@ const PIPE: [FieldKind; 8] = [
     FieldKind::Number(Quantity::Length),
     FieldKind::Number(Quantity::Diameter),
     FieldKind::Number(Quantity::WaveSpeed),
-    FieldKind::Number(Quantity::Friction),
+    FieldKind::Number(Quantity::FrictionFactor),
     FieldKind::Number(Quantity::Flow),
 ];
 
@@ -119,7 +123,7 @@ const PROBE: [FieldKind; 2] = [FieldKind::PipeName, FieldKind::Number(Quantity::
 
 /// The fields behind the name and the elevation of a node.
 pub(crate) fn node_fields(node: NodeWord) -> &'static [FieldKind]
-    ensures { result.now ≡ node_needs node }
+    ensures { result.now ≡ node_fields node }
 {
     match node {
         NodeWord::Reservoir => &RESERVOIR,
@@ -135,10 +139,10 @@ pub(crate) fn node_fields(node: NodeWord) -> &'static [FieldKind]
 /// What the field at a place of a line must be, counted from the word at place 0.
 #[tactic(auto, unfolding(crate::specs::Fields::field_kind))]
 pub fn field_kind(directive: Directive, place: usize) -> FieldKind
-    ensures { result ≡ needs directive place }
+    ensures { result ≡ field_kind directive place }
 {
     match directive {
-        Directive::OfSingle(single) => FieldKind::Number(single_quantity(single)),
+        Directive::OfSingle(single) => single_field(single),
         Directive::OfTable(kind) => table_field(kind, place),
         Directive::OfNode(node) => node_field(node, place),
         Directive::OfPipe => pipe_field(place),
@@ -148,7 +152,7 @@ pub fn field_kind(directive: Directive, place: usize) -> FieldKind
 }
 
 fn table_field(kind: TableKind, place: usize) -> FieldKind
-    ensures { result ≡ table_needs kind place }
+    ensures { result ≡ table_field kind place }
 {
     if place == 1 {
         FieldKind::NewName
@@ -160,7 +164,7 @@ fn table_field(kind: TableKind, place: usize) -> FieldKind
 }
 
 fn node_field(node: NodeWord, place: usize) -> FieldKind
-    ensures { result ≡ node_needs_at node place }
+    ensures { result ≡ node_field node place }
 {
     if place == 1 {
         FieldKind::NewName
@@ -172,13 +176,13 @@ fn node_field(node: NodeWord, place: usize) -> FieldKind
 }
 
 fn pipe_field(place: usize) -> FieldKind
-    ensures { result ≡ slice_index_or pipe_needs (place - 1) FieldKind.NewName }
+    ensures { result ≡ slice_index_or pipe_fields (place - 1) FieldKind.NewName }
 {
     kind_at(&PIPE, place.saturating_sub(1))
 }
 
 fn probe_field(place: usize) -> FieldKind
-    ensures { result ≡ slice_index_or probe_needs (place - 1) FieldKind.NewName }
+    ensures { result ≡ slice_index_or probe_fields (place - 1) FieldKind.NewName }
 {
     kind_at(&PROBE, place.saturating_sub(1))
 }

@@ -1,7 +1,8 @@
+//! The least rule that a line breaks by itself.
 ghost use Rattle.std.specs.Prelude.{◌≡◌, ◌-◌, ◌≤◌, ◌==◌, ◌&&◌, ◌||◌, ℕ, Bool, true, not, IsTrue, IfSome, length, map};
 ghost use Rattle.case_model.specs.Sets.{FindsLeast};
-ghost use Rattle.case_lines.specs.Fields.{has_count as is_counted, is_heading as is_first_line};
-ghost use Rattle.case_lines.specs.Alone.{breaks_name, breaks_reference, breaks_number, breaks_field, breaks_fields, breaks_counted, breaks_known, breaks_alone};
+ghost use Rattle.case_lines.specs.Fields.{has_count, is_heading};
+ghost use Rattle.case_lines.specs.Alone.{breaks_name, breaks_reference, breaks_number, breaks_friction, breaks_field, breaks_fields, breaks_counted, breaks_known, breaks_alone};
 
 use crate::amounts::{is_outside, is_spelt, quantity_in};
 use crate::counts::{has_count, has_too_many};
@@ -9,14 +10,14 @@ use crate::fields::{FieldKind, field_kind};
 use crate::order::is_disordered;
 use crate::quantities::{Quantity, limits};
 use crate::spelling::{field, is_heading, is_marked, is_name, is_reference};
-use crate::words::{Directive, directive_of};
+use crate::words::{Directive, directive_in, directive_of, friction_of};
 
-/// The least rule that a line breaks by itself, by its number in the text and its fields: 1 first
-/// line, 2 unknown word, 3 count of fields, 4 spelling, 5 number out of limits, 10 too many or too
-/// long, 14 table order. `None` where it breaks none.
+/// The least rule that a line breaks by itself, by the version of the text, its number in the text
+/// and its fields: 1 first line, 2 unknown word, 3 count of fields, 4 spelling, 5 number out of
+/// limits, 10 too many or too long, 14 table order. `None` where it breaks none.
 #[tactic(auto, unfolding(crate::specs::Alone::breaks_alone))]
-pub fn judge_line(line: u64, fields: &[&[u8]]) -> Option<u8>
-    ensures { FindsLeast (breaks_alone line (map (λ f. f.now) fields.now)) result }
+pub fn judge_line(version: u8, line: u64, fields: &[&[u8]]) -> Option<u8>
+    ensures { FindsLeast (breaks_alone version line (map (λ f. f.now) fields.now)) result }
 {
     if line == 1 {
         return judge_heading(fields);
@@ -24,11 +25,14 @@ pub fn judge_line(line: u64, fields: &[&[u8]]) -> Option<u8>
     if fields.is_empty() {
         return None;
     }
-    judge_known(directive_of(field(fields, 0)), fields)
+    judge_known(
+        directive_in(version, directive_of(field(fields, 0))),
+        fields,
+    )
 }
 
 fn judge_heading(fields: &[&[u8]]) -> Option<u8>
-    ensures { FindsLeast (λ n. (n == 1) && not (is_first_line (map (λ f. f.now) fields.now))) result }
+    ensures { FindsLeast (λ n. (n == 1) && not (is_heading (map (λ f. f.now) fields.now))) result }
 {
     if is_heading(fields) { None } else { Some(1) }
 }
@@ -54,7 +58,7 @@ fn judge_known(directive: Option<Directive>, fields: &[&[u8]]) -> Option<u8>
 #[tactic(auto, unfolding(crate::specs::Alone::breaks_counted))]
 fn judge_counted(directive: Directive, fields: &[&[u8]]) -> Option<u8>
     requires some { 1 ≤ length fields.now }
-    requires counted { is_counted directive (length fields.now) ≡ true }
+    requires counted { has_count directive (length fields.now) ≡ true }
     ensures { FindsLeast (breaks_counted directive (map (λ f. f.now) fields.now)) result }
 {
     let least = judge_fields(directive, fields);
@@ -103,6 +107,7 @@ fn judge_field(kind: FieldKind, text: &[u8]) -> Option<u8>
                 judge_number(quantity, text)
             }
         }
+        FieldKind::FrictionWord => judge_friction(text),
     }
 }
 
@@ -149,12 +154,23 @@ fn judge_number(quantity: Quantity, text: &[u8]) -> Option<u8>
     None
 }
 
-// The lesser of two rules.
-fn lesser(one: Option<u8>, other: Option<u8>) -> Option<u8>
-    requires one { IfSome one (λ n. n ≤ 10) }
-    requires other { IfSome other (λ n. n ≤ 10) }
-    ensures least { (some others : ℕ → Bool) → FindsLeast some one → FindsLeast others other → FindsLeast (λ n. some n || others n) result }
+#[tactic(auto, unfolding(crate::specs::Alone::breaks_friction))]
+fn judge_friction(text: &[u8]) -> Option<u8>
+    ensures least { FindsLeast (breaks_friction text.now) result }
     ensures few { IfSome result (λ n. n ≤ 10) }
+{
+    if friction_of(text).is_some() {
+        None
+    } else {
+        Some(4)
+    }
+}
+
+/// The lesser of two rules, each the least of its set: the least of both sets.
+pub fn lesser(one: Option<u8>, other: Option<u8>) -> Option<u8>
+    ensures least { (some others : ℕ → Bool) → FindsLeast some one → FindsLeast others other →
+        FindsLeast (λ n. some n || others n) result }
+    ensures few { IfSome one (λ n. n ≤ 10) → IfSome other (λ n. n ≤ 10) → IfSome result (λ n. n ≤ 10) }
 {
     match (one, other) {
         (Some(one), Some(other)) => Some(one.min(other)),

@@ -15,12 +15,9 @@ mod words;
 pub use amounts::{amount, quantity_in};
 pub use counts::{has_count, has_too_many};
 pub use cutting::{cut_line, fields_of};
-pub use fields::{FieldKind, field_kind, first_quantity, second_quantity, single_quantity};
-pub use judging::judge_line;
+pub use fields::{FieldKind, field_kind, first_quantity, second_quantity};
+pub use judging::{judge_line, lesser};
 pub use order::{is_ordered, pair_at};
 pub use quantities::{NumberLimits, Quantity, limits};
-pub use spelling::{field, is_marked, referred};
-pub use words::{Directive, NodeWord, Single, directive_of};
-
-#[cfg(test)]
-mod tests;
+pub use spelling::{field, heading_version, is_marked, referred};
+pub use words::{Directive, NodeWord, Single, directive_in, directive_of, friction_of};

@@ -1,3 +1,4 @@
+//! The pairs of a table and their order.
 ghost use Rattle.std.specs.Prelude.{◌≡◌, ◌+◌, ◌-◌, ◌*◌, ◌/◌, ◌<◌, ◌≤◌, ◌&&◌, not, true, unsigned_abs, length, map};
 ghost use Rattle.case_lines.specs.Fields.{has_count};
 ghost use Rattle.case_lines.specs.Tables.{pair_count as count_of_pairs, pair_at as pair_said, rises as may_rise, falls as may_fall, may_follow as may_stand_behind, may_begin as may_stand_first, follow as all_follow, is_ordered as is_in_order, is_disordered as is_out_of_order};

@@ -1,5 +1,6 @@
+//! The quantities that a case text gives in numbers: their units and limits.
 ghost use Rattle.std.specs.Prelude.{◌≡◌, ◌≤◌};
-ghost use Rattle.case_lines.specs.Quantities.{limits as limits_of};
+ghost use Rattle.case_lines.specs.Quantities.{limits};
 
 /// What a number of the case text is.
 #[derive(Clone, Copy, Debug, PartialEq, Eq)]
@@ -47,7 +48,7 @@ pub enum Quantity {
     /// Wave speed of a pipe, in 1e-3 m/s.
     WaveSpeed,
     /// Friction factor of a pipe, in 1e-6.
-    Friction,
+    FrictionFactor,
     /// Place of a probe in its pipe.
     PipePlace,
 }
@@ -65,7 +66,7 @@ pub struct NumberLimits {
 
 /// The unit and the limits of a quantity.
 pub fn limits(quantity: Quantity) -> NumberLimits
-    ensures value { result ≡ limits_of quantity }
+    ensures value { result ≡ limits quantity }
     ensures few { result.places ≤ 9 }
 {
     match quantity {
@@ -90,7 +91,7 @@ pub fn limits(quantity: Quantity) -> NumberLimits
         Quantity::Length => limited(3, 1, 1_000_000_000),
         Quantity::Diameter => limited(3, 20, 10_000),
         Quantity::WaveSpeed => limited(3, 10_000, 2_000_000),
-        Quantity::Friction => limited(6, 0, 500_000),
+        Quantity::FrictionFactor => limited(6, 0, 500_000),
         Quantity::PipePlace => limited(0, 0, 65_536),
     }
 }

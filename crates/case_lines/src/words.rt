@@ -1,7 +1,8 @@
+//! The words with which lines begin, the directives of each version, and the words on friction.
 ghost use Rattle.std.specs.Prelude.{◌≡◌};
-ghost use Rattle.case_lines.specs.Words.{single_of as single_says, table_of as table_says, node_of as node_says, other_of as other_says, directive_of as directive_says};
+ghost use Rattle.case_lines.specs.Words.{single_of, table_of, node_of, other_of, directive_of, has_single, has_directive, directive_in, friction_of};
 
-use case_model::TableKind;
+use case_model::{Friction, TableKind};
 
 /// A directive that may stand once.
 #[derive(Clone, Copy, Debug, PartialEq, Eq)]
@@ -18,6 +19,8 @@ pub enum Single {
     Tolerance,
     /// The count of steps from sample to sample.
     Every,
+    /// How friction is taken.
+    FrictionForm,
 }
 
 /// The kind of node that a line defines.
@@ -42,7 +45,7 @@ pub enum NodeWord {
 /// What a line says, by its first field.
 #[derive(Clone, Copy, Debug, PartialEq, Eq)]
 pub enum Directive {
-    /// A number of the whole case.
+    /// A setting of the whole case.
     OfSingle(Single),
     /// A table of pairs.
     OfTable(TableKind),
@@ -56,10 +59,10 @@ pub enum Directive {
     OfWatch,
 }
 
-/// The directive of a word, or `None` where it is no word of the case text.
+/// The directive of a word, or `None` where it is no word of the case text in any version.
 #[tactic(auto, unfolding(crate::specs::Words::directive_of))]
 pub fn directive_of(word: &[u8]) -> Option<Directive>
-    ensures { result ≡ directive_says word.now }
+    ensures { result ≡ directive_of word.now }
 {
     if let Some(single) = single_of(word) {
         return Some(Directive::OfSingle(single));
@@ -75,7 +78,7 @@ pub fn directive_of(word: &[u8]) -> Option<Directive>
 
 #[tactic(auto, unfolding(crate::specs::Words::single_of))]
 fn single_of(word: &[u8]) -> Option<Single>
-    ensures { result ≡ single_says word.now }
+    ensures { result ≡ single_of word.now }
 {
     if word == b"step".as_slice() {
         Some(Single::Step)
@@ -89,6 +92,8 @@ fn single_of(word: &[u8]) -> Option<Single>
         Some(Single::Tolerance)
     } else if word == b"every".as_slice() {
         Some(Single::Every)
+    } else if word == b"friction".as_slice() {
+        Some(Single::FrictionForm)
     } else {
         None
     }
@@ -96,7 +101,7 @@ fn single_of(word: &[u8]) -> Option<Single>
 
 #[tactic(auto, unfolding(crate::specs::Words::table_of))]
 fn table_of(word: &[u8]) -> Option<TableKind>
-    ensures { result ≡ table_says word.now }
+    ensures { result ≡ table_of word.now }
 {
     if word == b"heads".as_slice() {
         Some(TableKind::Heads)
@@ -117,7 +122,7 @@ fn table_of(word: &[u8]) -> Option<TableKind>
 
 #[tactic(auto, unfolding(crate::specs::Words::node_of))]
 fn node_of(word: &[u8]) -> Option<NodeWord>
-    ensures { result ≡ node_says word.now }
+    ensures { result ≡ node_of word.now }
 {
     if word == b"reservoir".as_slice() {
         Some(NodeWord::Reservoir)
@@ -139,7 +144,7 @@ fn node_of(word: &[u8]) -> Option<NodeWord>
 }
 
 fn other_of(word: &[u8]) -> Option<Directive>
-    ensures { result ≡ other_says word.now }
+    ensures { result ≡ other_of word.now }
 {
     if word == b"pipe".as_slice() {
         Some(Directive::OfPipe)
@@ -147,6 +152,63 @@ fn other_of(word: &[u8]) -> Option<Directive>
         Some(Directive::OfProbe)
     } else if word == b"watch".as_slice() {
         Some(Directive::OfWatch)
+    } else {
+        None
+    }
+}
+
+/// A directive, where a version of the case text has it: version 1 has none on friction.
+pub fn directive_in(version: u8, directive: Option<Directive>) -> Option<Directive>
+    ensures { result ≡ directive_in version directive }
+{
+    match directive {
+        Some(directive) => {
+            if has_directive(version, directive) {
+                Some(directive)
+            } else {
+                None
+            }
+        }
+        None => None,
+    }
+}
+
+fn has_directive(version: u8, directive: Directive) -> bool
+    ensures { result ≡ has_directive version directive }
+{
+    match directive {
+        Directive::OfSingle(single) => has_single(version, single),
+        Directive::OfTable(_) => true,
+        Directive::OfNode(_) => true,
+        Directive::OfPipe => true,
+        Directive::OfProbe => true,
+        Directive::OfWatch => true,
+    }
+}
+
+fn has_single(version: u8, single: Single) -> bool
+    ensures { result ≡ has_single version single }
+{
+    match single {
+        Single::Step => true,
+        Single::Steps => true,
+        Single::Vapour => true,
+        Single::Weight => true,
+        Single::Tolerance => true,
+        Single::Every => true,
+        Single::FrictionForm => version != 1,
+    }
+}
+
+/// How friction is taken, by its word; `None` where it is no such word.
+#[tactic(auto, unfolding(crate::specs::Words::friction_of))]
+pub fn friction_of(word: &[u8]) -> Option<Friction>
+    ensures { result ≡ friction_of word.now }
+{
+    if word == b"explicit".as_slice() {
+        Some(Friction::Explicit)
+    } else if word == b"linear".as_slice() {
+        Some(Friction::Linear)
     } else {
         None
     }

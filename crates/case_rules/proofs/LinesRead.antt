@@ -3,6 +3,7 @@ use Rattle.std.proofs.Common.{ℕ, zero, suc, ◌+◌, ◌-◌, ◌<◌, ◌≤�
 use Rattle.std.proofs.lemmas.Bool.{ne_eqb, le-leb}
 use Rattle.std.proofs.lemmas.Bool.Decides.{nat_tests}
 use Rattle.std.proofs.lemmas.List.Folds.{list_any-append}
+use Rattle.std.proofs.Math.Bool.{or-false}
 use Rattle.std.specs.List.{list_any}
 use Rattle.case_model.specs.Sets.{FindsLeast, IsEmpty, IsLeast}
 use Rattle.case_rules.specs.Said.{line_at}
@@ -30,10 +31,6 @@ next (x ∷ all) (suc k) fields others e =
       left = rw add-one (rw add-one at n.left);
     }
 
-or_false : (a : Bool) → (a || false) ≡ a
-or_false true = refl
-or_false false = refl
-
 -- the rules of the line behind the first k lines
 rules_here : (all : List (List (List ℕ))) (k : ℕ) (fields : List (List ℕ)) (others : List (List (List ℕ))) (number : ℕ) → IsNext all k fields others
     → line_rules all (k + 1) number ≡ breaks_line (take k all) all (k + 1) fields number
@@ -44,7 +41,7 @@ rules_here all k fields others number n =
     let q : nat_le (k + 1) (length all) ≡ true = le-leb (k + 1) (length all) (omega (arith, n.there)) in
     let z : (length all == 0) ≡ false = ne_eqb (length all) 0 (λ z. absurd (omega (arith, n.there))) in
     let a = n.at in
-    rw (p, q, z, o, a) (or_false (breaks_line (take k all) all (k + 1) fields number))
+    rw (p, q, z, o, a) (or-false (breaks_line (take k all) all (k + 1) fields number))
 
 later : (l line n number : ℕ) → (l ≡ line → number ≤ n) → line ≤ l → (line < l) ⊎ ((line ≡ l) × (number ≤ n))
 later l line n number f h = grind arith

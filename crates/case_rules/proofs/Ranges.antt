@@ -5,21 +5,8 @@ use Rattle.std.proofs.lemmas.List.FromFn.{length-range_with_len, get_or-range_wi
 use Rattle.std.proofs.lemmas.List.Folds.{list_any_at}
 use Rattle.case_lines.specs.declared.words.Directive.{Directive}
 use Rattle.case_lines.specs.Fields.{field, field_kind}
+use Rattle.case_lines.proofs.Ranges.{any_suc}
 use Rattle.case_rules.specs.Among.{is_unknown, uses_unknown}
-
-or_assoc : (a b c : Bool) → (a || (b || c)) ≡ ((a || b) || c)
-or_assoc true b c = refl
-or_assoc false b c = refl
-
-or_false : (a : Bool) → (a || false) ≡ a
-or_false true = refl
-or_false false = refl
-
-any_suc : (p : ℕ → Bool) (a n : ℕ) → list_any p (range_with_len a (suc n)) ≡ (list_any p (range_with_len a n) || p (a + n))
-any_suc p a zero = or_false (p a) ∙ ap p (omega arith)
-any_suc p a (suc n) =
-    ap (λ (b : Bool). p a || b) (any_suc p (a + 1) n ∙ ap (λ (k : ℕ). list_any p (range_with_len (a + 1) n) || p k) (omega arith))
-    ∙ or_assoc (p a) (list_any p (range_with_len (a + 1) n)) (p (a + suc n))
 
 pub unknown_none : (lines : List (List (List ℕ))) (d : Directive) (fields : List (List ℕ)) → uses_unknown lines d fields 0 ≡ false
 unfolding uses_unknown

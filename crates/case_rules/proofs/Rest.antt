@@ -1,5 +1,6 @@
 -- The lines of a text and of the text behind its first line.
 use Rattle.std.proofs.Common.{ℕ, ◌≡◌, ◌||◌, Bool, true, false, List, [], ◌∷◌, map, ap, ◌∙◌, sym, refl}
+use Rattle.std.proofs.Math.Bool.{or-false}
 use Rattle.std.specs.List.{list_any}
 use Rattle.case_lines.specs.Texts.{text_lines, fields_of}
 use Rattle.case_rules.specs.Said.{lines_of}
@@ -23,9 +24,5 @@ pub any_moved : (test : List (List ℕ) → Bool) (before after all : Bool) (fie
     (before || list_any test text) ≡ all → (after || list_any test others) ≡ all
 any_moved test before after all fields text others e a h = rw a (moved before (test fields) (list_any test others) ∙ sym (ap (λ (ls : List (List (List ℕ))). before || list_any test ls) e) ∙ h)
 
-or_false : (a : Bool) → (a || false) ≡ a
-or_false true = refl
-or_false false = refl
-
 pub any_out : (test : List (List ℕ) → Bool) (before all : Bool) (text : List (List (List ℕ))) → text ≡ [] → (before || list_any test text) ≡ all → before ≡ all
-any_out test before all text e h = sym (or_false before) ∙ sym (ap (λ (ls : List (List (List ℕ))). before || list_any test ls) e) ∙ h
+any_out test before all text e h = sym (or-false before) ∙ sym (ap (λ (ls : List (List (List ℕ))). before || list_any test ls) e) ∙ h

@@ -6,7 +6,7 @@ use Rattle.case_lines.specs.declared.words.Directive.{Directive}
 use Rattle.case_lines.specs.declared.words.Directive.TheVariants.{OfSingle, OfTable, OfNode, OfPipe, OfProbe, OfWatch}
 use Rattle.case_lines.specs.Texts.{text_lines, fields_of}
 use Rattle.case_lines.specs.Words.{directive_of}
-use Rattle.case_lines.specs.Fields.{field}
+use Rattle.case_lines.specs.Fields.{field, heading_version}
 use Rattle.case_rules.specs.declared.parts.Part.{Part}
 use Rattle.case_rules.specs.declared.parts.Part.TheVariants.{ATable, ANode, APipe}
 
@@ -18,7 +18,11 @@ lines_of bytes = map fields_of (text_lines bytes)
 abbrev pub line_at : List (List (List ℕ)) → ℕ → List (List ℕ)
 line_at lines k = slice_index_or lines k []
 
--- the directive of a line, if it has one
+-- the version of the case text, which its first line decides
+abbrev pub version_of : List (List (List ℕ)) → ℕ
+version_of lines = heading_version (line_at lines 0)
+
+-- the directive of a line, in whatever version, if it has one
 unfoldable pub said : List (List ℕ) → Option Directive
 said fields = directive_of (field fields 0)
 

@@ -1,12 +1,13 @@
+//! The second pass over a text: the counts of its parts.
 ghost use Rattle.std.specs.Prelude.{◌≡◌, ◌≤◌, ◌+◌, ◌-◌, ◌==◌, ◌||◌, ◌&&◌, not, nat_lt, codes, ℕ, Err, IfOk, length, map};
 ghost use Rattle.std.specs.Str.{bytes_eq};
 ghost use Rattle.case_model.specs.Sets.{FindsLeast, IsEmpty, IsLeast};
-ghost use Rattle.case_rules.specs.Said.{lines_of, is_single_of as is_single_line_of};
+ghost use Rattle.case_rules.specs.Said.{lines_of};
 ghost use Rattle.case_rules.specs.Counts.{is_table as is_table_word, is_node as is_node_word, is_pipe as is_pipe_word, is_sampled as is_sampled_word, count_rules};
 ghost use Rattle.case_rules.specs.Tallies.{one_if as one_where, nothing as nothing_counted, counted as counted_more, tally_of, IsFew};
 
-use crate::parts::{is_single, said};
-use case_lines::{Directive, cut_line, field, fields_of};
+use crate::parts::{is_single_of, said};
+use case_lines::{Directive, cut_line, fields_of};
 use case_model::CaseFault;
 use std::alloc::{AllocError, Global};
 
@@ -34,9 +35,7 @@ pub fn judge_counts(alloc: Global, bytes: &[u8]) -> Result<(), CaseFault>
     ensures kept { IfOk result (λ u. IsEmpty (count_rules (lines_of bytes.now))) }
     ensures refused { (number line : ℕ) → result ≡ Err (CaseFault.Refused number line) → IsLeast (count_rules (lines_of bytes.now)) line number }
 {
-    let Ok(tally) = count_lines(alloc, bytes) else {
-        return Err(CaseFault::Memory);
-    };
+    let tally = count_lines(alloc, bytes)?;
     if is_incomplete(tally) {
         return Err(CaseFault::Refused { number: 8, line: 0 });
     }
@@ -116,13 +115,6 @@ fn one_if(counts: bool) -> u32
     ensures few { result ≤ 1 }
 {
     if counts { 1 } else { 0 }
-}
-
-#[tactic(auto, unfolding(crate::specs::Said::is_single_of))]
-fn is_single_of(word: &[u8], fields: &[&[u8]]) -> bool
-    ensures { result ≡ is_single_line_of word.now (map (λ f. f.now) fields.now) }
-{
-    is_single(fields) && field(fields, 0) == word
 }
 
 fn is_table(directive: Option<Directive>) -> bool

@@ -1,38 +1,43 @@
+//! The least rule that a line breaks, by itself and among the others.
 ghost use Rattle.std.specs.Prelude.{◌≡◌, ◌≤◌, ◌-◌, ◌==◌, ◌||◌, ◌&&◌, not, false, IfOk, List as Items, ℕ, length, map};
 ghost use Rattle.std.specs.List.{list_any};
 ghost use Rattle.case_model.specs.Sets.{FindsLeast};
 ghost use Rattle.case_lines.specs.Fields.{field as field_at};
-ghost use Rattle.case_rules.specs.Said.{is_definition as is_definition_line, is_single as is_single_line, defines, defines_part, is_single_of};
+ghost use Rattle.case_rules.specs.Said.{version_of, is_definition as is_definition_line, is_single as is_single_line, defines, defines_part, is_single_of};
 ghost use Rattle.case_rules.specs.Known.{AreNames, AreDefined, AreSingles};
 ghost use Rattle.case_rules.specs.Among.{is_unknown as is_unknown_in, uses_unknown as uses_unknown_in, breaks_counted, breaks_among, breaks_line};
 
-use crate::fewest::lesser;
 use crate::parts::{Part, is_definition, is_single, part_number, said};
 use case_lines::{
-    Directive, FieldKind, field, field_kind, has_count, is_marked, judge_line, referred,
+    Directive, FieldKind, directive_in, field, field_kind, has_count, is_marked, judge_line,
+    lesser, referred,
 };
 use case_model::TableKind;
 use std::collections::HashSet;
 
-/// The least rule that a line breaks, by itself and among the others: by the names and the single
-/// directives of the lines before it, and the names of all lines.
+/// The least rule that a line breaks, by itself and among the others: by the version of the
+/// text, the names and the single directives of the lines before it, and the names of all lines.
 #[tactic(auto, unfolding(crate::specs::Among::breaks_line))]
 pub(crate) fn judge(
+    version: u8,
     line: u64,
     fields: &[&[u8]],
     defined: &HashSet<&[u8]>,
     singles: &HashSet<&[u8]>,
     names: &HashSet<(u8, &[u8])>,
 ) -> Option<u8>
-    ensures { (before all : Items (Items (Items ℕ))) → AreDefined defined.now before → AreSingles singles.now before → AreNames names.now all → FindsLeast (breaks_line before all line (map (λ f. f.now) fields.now)) result }
+    ensures { (before all : Items (Items (Items ℕ))) → version ≡ version_of all →
+        AreDefined defined.now before → AreSingles singles.now before → AreNames names.now all →
+        FindsLeast (breaks_line before all line (map (λ f. f.now) fields.now)) result }
 {
-    let alone = judge_line(line, fields);
+    let alone = judge_line(version, line, fields);
     if line == 1 {
         return alone;
     }
+    let directive = directive_in(version, said(fields));
     lesser(
         alone,
-        judge_among(said(fields), fields, defined, singles, names),
+        judge_among(directive, fields, defined, singles, names),
     )
 }
 
@@ -116,6 +121,7 @@ fn is_unknown(kind: FieldKind, text: &[u8], names: &HashSet<(u8, &[u8])>) -> boo
         FieldKind::PipeName => !is_known(Part::APipe, text, names),
         FieldKind::Reference(kind) => !is_known(Part::ATable(kind), referred(text), names),
         FieldKind::Number(_) => false,
+        FieldKind::FrictionWord => false,
         FieldKind::Value(_, kind) => {
             is_marked(text) && !is_known(Part::ATable(kind), referred(text), names)
         }

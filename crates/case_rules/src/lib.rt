@@ -3,7 +3,6 @@
 #![tactic(auto)]
 
 mod counting;
-mod fewest;
 mod judging;
 mod lines;
 mod names;
@@ -11,9 +10,6 @@ mod parts;
 mod reading;
 
 pub use counting::judge_counts;
-pub use lines::next_line;
-pub use parts::{Part, named_by, part_number, said};
+pub use lines::{next_line, text_version};
+pub use parts::{Part, is_single_of, named_by, part_number, said};
 pub use reading::judge_lines;
-
-#[cfg(test)]
-mod tests;

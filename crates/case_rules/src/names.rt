@@ -1,3 +1,4 @@
+//! Sets of the names that lines define, and of their single directives.
 ghost use Rattle.std.specs.Prelude.{◌≡◌, ◌≤◌, ◌||◌, ◌&&◌, not, IfOk, List as Items, ℕ, length, map};
 ghost use Rattle.std.specs.HashSet.{contains};
 ghost use Rattle.case_lines.specs.Fields.{field as field_at};

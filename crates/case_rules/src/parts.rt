@@ -1,5 +1,7 @@
+//! What lines say and define.
 ghost use Rattle.std.specs.Prelude.{◌≡◌, ◌≤◌, ◌&&◌, length, map, nat_lt};
-ghost use Rattle.case_rules.specs.Said.{said as said_by, named_by as named_after, part_number as number_of_part, is_definition as is_definition_line, is_single_directive as is_single_word, is_single as is_single_line};
+ghost use Rattle.std.specs.Str.{bytes_eq};
+ghost use Rattle.case_rules.specs.Said.{said as said_by, named_by as named_after, part_number as number_of_part, is_definition as is_definition_line, is_single_directive as is_single_word, is_single as is_single_line, is_single_of as is_single_line_of};
 
 use case_lines::{Directive, directive_of, field};
 use case_model::TableKind;
@@ -83,4 +85,12 @@ fn is_single_directive(directive: Option<Directive>) -> bool
         Some(Directive::OfWatch) => false,
         None => false,
     }
+}
+
+/// Whether a line has the single directive of this word.
+#[tactic(auto, unfolding(crate::specs::Said::is_single_of))]
+pub fn is_single_of(word: &[u8], fields: &[&[u8]]) -> bool
+    ensures { result ≡ is_single_line_of word.now (map (λ f. f.now) fields.now) }
+{
+    is_single(fields) && field(fields, 0) == word
 }

@@ -1,9 +1,11 @@
 -- The written text of a case: lines of fields, one blank between them, a line end after each; each number with all its places.
-use Rattle.std.specs.Prelude.{ℕ, ℤ, pos, List, [], ◌∷◌, ◌++◌, slice_index_or, codes}
+use Rattle.std.specs.Prelude.{ℕ, ℤ, pos, ◌==◌, List, [], ◌∷◌, ◌++◌, if◌then◌else◌, slice_index_or, codes}
 use Rattle.std.specs.List.{flat_map, join_with_byte}
 use Rattle.fixed_num.specs.Written.{written}
 use Rattle.case_model.specs.Parts.{no_table, no_node, no_pipe}
 use Rattle.case_model.specs.declared.cases.Case.{Case}
+use Rattle.case_model.specs.declared.cases.Friction.{Friction}
+use Rattle.case_model.specs.declared.cases.Friction.TheVariants.{Explicit, Linear}
 use Rattle.case_model.specs.declared.cases.Table.{Table}
 use Rattle.case_model.specs.declared.cases.TableKind.{TableKind}
 use Rattle.case_model.specs.declared.cases.TableKind.TheVariants.{Heads, Flows, Openings, Speeds, Curve, Gas}
@@ -39,16 +41,31 @@ abbrev pub value_text : ℕ → List Table → Value → List ℕ
 value_text places tables (Fixed x) = written places x
 value_text places tables (ByTable t) = 64 ∷ name_of_table tables t
 
--- the first line and the single directives: s, m, tenths, thousandths and counts
-unfoldable pub settings_text : Case → List ℕ
-settings_text case =
-    line_of (codes "surge" ∷ codes "1" ∷ [])
+-- the version, as the first line gives it
+abbrev pub version_word : ℕ → List ℕ
+version_word version = if version == 1 then codes "1" else codes "2"
+
+abbrev pub friction_word : Friction → List ℕ
+friction_word Explicit = codes "explicit"
+friction_word Linear = codes "linear"
+
+-- how friction is taken, which version 1 doesn't say
+abbrev pub friction_text : ℕ → Friction → List ℕ
+friction_text version friction =
+    if version == 1 then [] else line_of (codes "friction" ∷ friction_word friction ∷ [])
+
+-- the first line and the single directives in a version: s, m, tenths, thousandths and counts, and
+-- how friction is taken
+unfoldable pub settings_text : ℕ → Case → List ℕ
+settings_text version case =
+    line_of (codes "surge" ∷ version_word version ∷ [])
     ++ line_of (codes "step" ∷ written 6 case.dt ∷ [])
     ++ line_of (codes "steps" ∷ count_text case.steps ∷ [])
     ++ line_of (codes "vapour" ∷ written 6 case.vapour ∷ [])
     ++ line_of (codes "weight" ∷ written 1 case.weight ∷ [])
     ++ line_of (codes "tolerance" ∷ written 3 case.tolerance ∷ [])
     ++ line_of (codes "every" ∷ count_text case.every ∷ [])
+    ++ friction_text version case.friction
 
 abbrev pub table_word : TableKind → List ℕ
 table_word Heads = codes "heads"
@@ -128,5 +145,14 @@ network_text case =
     ++ flat_map (pipe_text case.nodes) case.pipes
     ++ flat_map (probe_text case.pipes case.nodes) case.probes
 
+-- the written text of a case in a version of the case text, and in its own
+unfoldable pub text_in : ℕ → Case → List ℕ
+text_in version case =
+    settings_text version case ++ flat_map table_text case.tables ++ network_text case
+
 unfoldable pub case_text : Case → List ℕ
-case_text case = settings_text case ++ flat_map table_text case.tables ++ network_text case
+case_text case = text_in case.version case
+
+-- the case in version 2 of the case text, with its friction as it is and all else the same
+abbrev pub upgraded : Case → Case
+upgraded case = record case { version = 2 }

@@ -6,7 +6,4 @@ mod lines;
 mod nodes;
 mod writing;
 
-pub use writing::write_case;
-
-#[cfg(test)]
-mod tests;
+pub use writing::{write_case, write_upgraded};

@@ -1,28 +1,62 @@
 //! The lines of a case but for those of its nodes, and the pieces of a table's line.
-ghost use Rattle.std.specs.Prelude.{◌≡◌, ◌≤◌, ◌+◌, ◌++◌, ◌∷◌, [], length};
+ghost use Rattle.std.specs.Prelude.{◌≡◌, ◌≤◌, ◌+◌, ◌++◌, ◌∷◌, [], codes, length};
 ghost use Rattle.fixed_num.specs.Written.{written};
 ghost use Rattle.case_model.specs.Limits.{IsJoined};
-ghost use Rattle.case_writing.specs.CaseText.{count_text, entry_fields, first_places, line_of, pipe_names, pipe_numbers, pipe_text, probe_text, second_places, settings_text, table_word};
+ghost use Rattle.case_writing.specs.CaseText.{count_text, entry_fields, first_places, friction_text, friction_word, line_of, pipe_names, pipe_numbers, pipe_text, probe_text, second_places, settings_text, table_word, version_word};
 ghost use Rattle.case_writing.specs.Named.{IsThere, spaced};
 
 use crate::fields::{add_count, add_field, add_number};
-use case_model::{Case, Node, Pipe, Probe, ProbeAt, Table, TableKind};
+use case_model::{Case, Friction, Node, Pipe, Probe, ProbeAt, Table, TableKind};
 use surge_io::Line;
 
-// The first line and the single directives.
+// The first line and the single directives, in a version of the case text.
 #[tactic(auto, unfolding(crate::specs::CaseText::settings_text))]
-pub(crate) fn settings_lines(case: &Case) -> Line
-    ensures { result ≡ settings_text case.now }
+pub(crate) fn settings_lines(version: u8, case: &Case) -> Line
+    ensures { result ≡ settings_text version case.now }
 {
     let mut lines = Line::new();
-    lines.push(b"surge 1\n");
+    add_heading(&mut lines, version);
     add_setting(&mut lines, b"step", case.dt, 6);
     add_counted(&mut lines, b"steps", case.steps);
     add_setting(&mut lines, b"vapour", case.vapour, 6);
     add_setting(&mut lines, b"weight", case.weight, 1);
     add_setting(&mut lines, b"tolerance", case.tolerance, 3);
     add_counted(&mut lines, b"every", case.every);
+    add_friction(&mut lines, version, case.friction);
     lines
+}
+
+// Adds the first line.
+fn add_heading(lines: &mut Line, version: u8)
+    requires { length lines.old ≤ 200 }
+    ensures text { lines.new ≡ lines.old ++ line_of (codes "surge" ∷ version_word version ∷ []) }
+    ensures few { length lines.new ≤ length lines.old + 8 }
+{
+    lines.push(b"surge");
+    add_field(lines, if version == 1 { b"1" } else { b"2" });
+    lines.push(b"\n");
+}
+
+// Adds the line on friction, which version 1 hasn't.
+fn add_friction(lines: &mut Line, version: u8, friction: Friction)
+    requires { length lines.old ≤ 220 }
+    ensures { lines.new ≡ lines.old ++ friction_text version friction }
+{
+    if version != 1 {
+        lines.push(b"friction");
+        add_field(lines, friction_word(friction));
+        lines.push(b"\n");
+    }
+}
+
+fn friction_word(friction: Friction) -> &'static [u8]
+    ensures text { result.now ≡ friction_word friction }
+    ensures few { length result.now ≤ 8 }
+{
+    match friction {
+        Friction::Explicit => b"explicit",
+        Friction::Linear => b"linear",
+    }
 }
 
 // Adds the line of a single directive with a number.

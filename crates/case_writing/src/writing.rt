@@ -5,7 +5,7 @@ ghost use Rattle.surge_io.specs.Bytes.{Appends, AppendsFront};
 ghost use Rattle.surge_io.specs.Faults.{Rose};
 ghost use Rattle.surge_io.specs.Pages.{Adds, AddsFront};
 ghost use Rattle.case_model.specs.Limits.{IsJoined, IsNode, IsRead, IsSpot};
-ghost use Rattle.case_writing.specs.CaseText.{case_text, entry_fields, network_text, node_text, pipe_text, probe_text, table_text};
+ghost use Rattle.case_writing.specs.CaseText.{case_text, entry_fields, network_text, node_text, pipe_text, probe_text, table_text, text_in, upgraded};
 ghost use Rattle.case_writing.specs.Named.{spaced};
 
 use crate::lines::{entry_piece, pipe_line, probe_line, settings_lines, table_start};
@@ -13,9 +13,10 @@ use crate::nodes::node_line;
 use case_model::{Case, Node, Pipe, Probe, Table, TableKind};
 use surge_io::{Failed, Page, Sink};
 
-/// Writes the text of a case: the single directives, then tables, nodes, pipes, and probes with watches, each in
-/// the case's order. `Failed` comes only where the sink's count of faults rose in this call, and then a first
-/// part was written.
+/// Writes the text of a case in its version: the single directives, then tables, nodes, pipes, and
+/// probes with watches, each in the case's order. `Failed` comes only where the sink's count of
+/// faults rose in this call, and then a first part was written.
+#[tactic(auto, unfolding(crate::specs::CaseText::case_text))]
 pub fn write_case<K: Sink>(case: &Case, out: &mut K) -> Result<(), Failed>
     requires { IsRead case.now }
     ensures all { OnOk result (Appends (K.held out.old) (K.held out.new) (case_text case.now)) }
@@ -23,20 +24,50 @@ pub fn write_case<K: Sink>(case: &Case, out: &mut K) -> Result<(), Failed>
     ensures cause { OnErr result (Rose (K.faults out.old) (K.faults out.new)) }
     ensures later { K.faults out.old ≤ K.faults out.new }
 {
+    write_as(case.version, case, out)
+}
+
+/// Writes the text of a case as version 2 of the case text, with its friction as it is: what
+/// `write_case` writes of the upgraded case, which isn't made. `Failed` comes only where the sink's
+/// count of faults rose in this call, and then a first part was written.
+pub fn write_upgraded<K: Sink>(case: &Case, out: &mut K) -> Result<(), Failed>
+    requires { IsRead case.now }
+    ensures all { OnOk result
+        (Appends (K.held out.old) (K.held out.new) (case_text (upgraded case.now))) }
+    ensures front { OnErr result
+        (AppendsFront (K.held out.old) (K.held out.new) (case_text (upgraded case.now))) }
+    ensures cause { OnErr result (Rose (K.faults out.old) (K.faults out.new)) }
+    ensures later { K.faults out.old ≤ K.faults out.new }
+{
+    write_as(2, case, out)
+}
+
+// Writes the text of a case in a version of the case text.
+fn write_as<K: Sink>(version: u8, case: &Case, out: &mut K) -> Result<(), Failed>
+    requires { IsRead case.now }
+    ensures all { OnOk result
+        (Appends (K.held out.old) (K.held out.new) (text_in version case.now)) }
+    ensures front { OnErr result
+        (AppendsFront (K.held out.old) (K.held out.new) (text_in version case.now)) }
+    ensures cause { OnErr result (Rose (K.faults out.old) (K.faults out.new)) }
+    ensures later { K.faults out.old ≤ K.faults out.new }
+{
     let mut page = Page::new();
-    add_case(case, &mut page, out)?;
+    add_case(version, case, &mut page, out)?;
     page.flush(out)
 }
 
 // Adds the whole text.
-fn add_case<K: Sink>(case: &Case, page: &mut Page, out: &mut K) -> Result<(), Failed>
+fn add_case<K: Sink>(version: u8, case: &Case, page: &mut Page, out: &mut K) -> Result<(), Failed>
     requires { IsRead case.now }
-    ensures all { OnOk result (Adds (K.held out.old) page.old (K.held out.new) page.new (case_text case.now)) }
-    ensures front { OnErr result (AddsFront (K.held out.old) page.old (K.held out.new) (case_text case.now)) }
+    ensures all { OnOk result (Adds (K.held out.old) page.old (K.held out.new) page.new
+        (text_in version case.now)) }
+    ensures front { OnErr result (AddsFront (K.held out.old) page.old (K.held out.new)
+        (text_in version case.now)) }
     ensures cause { OnErr result (Rose (K.faults out.old) (K.faults out.new)) }
     ensures later { K.faults out.old ≤ K.faults out.new }
 {
-    let settings = settings_lines(case);
+    let settings = settings_lines(version, case);
     page.add(out, settings.as_bytes())?;
     add_tables(case.tables.as_slice(), page, out)?;
     add_network(case, page, out)

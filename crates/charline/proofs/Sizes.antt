@@ -1,7 +1,8 @@
 -- The sizes of rounded quotients along a pipe.
-use Rattle.std.proofs.Common.{ℕ, zero, suc, ◌+◌, ◌*◌, ◌/◌, ◌%◌, ◌<◌, ◌≤◌, ◌≡◌, ℤ, pos, ◌*ℤ◌, ◌≤ℤ◌, unsigned_abs, ap, sym, ◌∙◌, w64, FitsSigned, arith}
+use Rattle.std.proofs.Common.{ℕ, zero, suc, ◌+◌, ◌*◌, ◌/◌, ◌%◌, ◌<◌, ◌≤◌, ◌≡◌, ℤ, pos, ◌*ℤ◌, ◌≤ℤ◌, unsigned_abs, ⊎_elim, ap, ◌∙◌, w64, FitsSigned, arith}
 use Rattle.std.specs.Int.{w128}
 use Rattle.std.proofs.lemmas.Int.{ints, unsigned_abs-mul, fits_signed_from_abs, fits_signed_mul}
+use Rattle.std.proofs.lemmas.Bool.{cases_lt}
 use Rattle.std.proofs.lemmas.Nat.{mul-le}
 use Rattle.charline.specs.Characteristics.{IsImpedance}
 
@@ -44,10 +45,23 @@ millions_and_rest r q =
     distributed (r / 1000000) (r % 1000000) q ∙ ap (λ (n : ℕ). n * q) e
 
 -- the volume that a growth gains in a time step
-pub gained_product : (dt growth : ℤ) → pos 1 ≤ℤ dt → dt ≤ℤ pos 1000000 → unsigned_abs growth ≤ 20000000000000000000 → FitsSigned w128 (dt *ℤ growth)
-gained_product dt growth least most h = fits_signed_mul w128 dt growth 1000000 20000000000000000000 (omega (arith, ints)) h (omega arith)
+pub gained_product : (dt growth : ℤ) → pos 1 ≤ℤ dt → dt ≤ℤ pos 1000000 → unsigned_abs growth ≤ 200000000000000000000 → FitsSigned w128 (dt *ℤ growth)
+gained_product dt growth least most h =
+    fits_signed_mul w128 dt growth 1000000 200000000000000000000 (omega (arith, ints)) h (omega arith)
 
-pub gained_below : (dt growth x : ℤ) → pos 1 ≤ℤ dt → dt ≤ℤ pos 1000000 → unsigned_abs growth ≤ 20000000000000000000 → 2 * unsigned_abs x * 10000000 ≤ 2 * unsigned_abs (dt *ℤ growth) + 10000000 → unsigned_abs x ≤ 2000000000000000001
+pub gained_below : (dt growth x : ℤ) → pos 1 ≤ℤ dt → dt ≤ℤ pos 1000000 → unsigned_abs growth ≤ 200000000000000000000 → 2 * unsigned_abs x * 10000000 ≤ 2 * unsigned_abs (dt *ℤ growth) + 10000000 → unsigned_abs x ≤ 20000000000000000001
 gained_below dt growth x least most h m =
-    let s : unsigned_abs (dt *ℤ growth) ≤ 1000000 * 20000000000000000000 = rw (unsigned_abs-mul dt growth) (mul-le (unsigned_abs dt) (unsigned_abs growth) 1000000 20000000000000000000 (omega (arith, ints)) h) in
+    let s : unsigned_abs (dt *ℤ growth) ≤ 1000000 * 200000000000000000000 = rw (unsigned_abs-mul dt growth) (mul-le (unsigned_abs dt) (unsigned_abs growth) 1000000 200000000000000000000 (omega (arith, ints)) h) in
     omega arith
+
+-- a rounded quotient is no further from 0 than what bounds the quotient
+pub mean_below : (x w h most : ℕ) → 0 < w → h ≤ most * w → 2 * x * w ≤ 2 * h + w → x ≤ most
+mean_below x w h most p k m =
+    ⊎_elim (λ over. let f : suc most * w ≤ x * w = mul-le (suc most) w x w over (omega arith) in absurd (omega arith)) (λ within. within) (cases_lt most x)
+
+-- a head that counts by an impedance
+pub weighted_fits : (c z : ℤ) → unsigned_abs c ≤ 10000000000000 → IsImpedance z → FitsSigned w128 (c *ℤ z)
+weighted_fits c z h k = fits_signed_mul w128 c z 10000000000000 10000000000000 h (size_of_impedance z k) (omega arith)
+
+pub weighted_below : (c z : ℤ) → unsigned_abs c ≤ 10000000000000 → unsigned_abs (c *ℤ z) ≤ 10000000000000 * unsigned_abs z
+weighted_below c z h = rw (unsigned_abs-mul c z) (mul-le (unsigned_abs c) (unsigned_abs z) 10000000000000 (unsigned_abs z) h (omega arith))

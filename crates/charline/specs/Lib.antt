@@ -1,3 +1,4 @@
 pub mod Cavity
 pub mod Characteristics
+pub mod Equal
 pub mod Interior

@@ -1,12 +1,33 @@
-ghost use Rattle.std.specs.Prelude.{◌≡◌, ◌≤◌, ◌-ℤ◌, unsigned_abs, Some, None, IfSome};
+//! The interior law with the discrete vapour cavity, for each kind of friction.
+ghost use Rattle.std.specs.Prelude.{
+  ◌≡◌,
+  ◌+◌,
+  ◌*◌,
+  ◌≤◌,
+  pos,
+  ◌+ℤ◌,
+  ◌*ℤ◌,
+  ◌≤ℤ◌,
+  unsigned_abs,
+  IfSome,
+};
 ghost use Rattle.std.specs.Int.{int_max};
+ghost use Rattle.fixed_num.specs.Rounding.{rnd as rounded};
+ghost use Rattle.case_model.specs.declared.cases.Friction.TheVariants.{
+  Explicit as ExplicitFriction,
+  Linear as LinearFriction,
+};
+ghost use Rattle.case_model.specs.declared.meshes.Arrival.{Arrival as Line};
 ghost use Rattle.case_model.specs.Range.{IsPoint, point_of as made_of};
-ghost use Rattle.charline.specs.Characteristics.{IsImpedance, IsResistance};
+ghost use Rattle.charline.specs.Characteristics.{
+  IsArrival,
+  IsImpedance,
+  IsResistance,
+  with_impedance,
+};
 ghost use Rattle.charline.specs.Cavity.{IsRule, cavity_volume as volume_of};
 ghost use Rattle.charline.specs.Interior.{
   inner_point as inner_of,
-  liquid_point as liquid_of,
-  liquid_if as meeting_of,
   meet_if as meet_of,
   meet as met_of,
   liquid as liquid_at,
@@ -18,17 +39,18 @@ ghost use Rattle.charline.specs.Interior.{
   meeting_flow as flow_of,
 };
 
-use crate::arrivals::{arrive_minus, arrive_plus};
+use crate::arrivals::{explicit_minus, explicit_plus, linear_minus, linear_plus};
 use crate::cavities::cavity_volume;
 use crate::quotients::{driven_flow, half};
-use case_model::{CavityRule, Point, point_of};
+use case_model::{Arrival, CavityRule, Friction, Point, point_of};
+use fixed_num::rnd;
 
 /// The point of an inner place one step later, of its neighbours and itself: the interior law with
-/// the discrete vapour cavity. Bad where one of them is, a characteristic value is out of range, or a
-/// number of the result is. Wylie and Streeter, Fluid Transients in Systems, method of
+/// the discrete vapour cavity. Bad exactly where one of them is, a characteristic is out of range, or
+/// a number of the result is. Wylie and Streeter, Fluid Transients in Systems, method of
 /// characteristics and column separation.
-#[tactic(auto, unfolding(crate::specs::Interior::inner_point))]
 pub fn inner_point(
+    friction: Friction,
     rule: &CavityRule,
     b: i64,
     r: i128,
@@ -42,118 +64,165 @@ pub fn inner_point(
     requires left_in { IsPoint left.now }
     requires own_in { IsPoint own.now }
     requires right_in { IsPoint right.now }
-    ensures { result ≡ inner_of rule.now b r left.now own.now right.now }
+    ensures { result ≡ inner_of friction rule.now b r left.now own.now right.now }
 {
-    match own {
-        Point::Good { qu, qd, v, .. } => {
-            let old = Old {
-                qu: *qu,
-                qd: *qd,
-                v: *v,
-            };
-            meet_if(
-                rule,
-                b,
-                arrive_plus(b, r, left),
-                arrive_minus(b, r, right),
-                &old,
-            )
-        }
-        Point::Bad => Point::Bad,
+    match friction {
+        Friction::Explicit => explicit_point(rule, b, r, left, own, right),
+        Friction::Linear => linear_point(rule, b, r, left, own, right),
     }
 }
 
-/// The branch of the interior law in which no cavity is or opens: the point of an inner place without
-/// a cavity, whatever the vapour head. Bad as of `inner_point`.
-#[tactic(auto, unfolding(crate::specs::Interior::liquid_point))]
-pub fn liquid_point(b: i64, r: i128, left: &Point, own: &Point, right: &Point) -> Point
+/// `inner_point` with friction taken explicitly: both characteristics have the pipe's impedance, so
+/// that a half of their sum and one division by twice the impedance tell where they meet.
+#[tactic(auto, unfolding(crate::specs::Interior::inner_point))]
+pub fn explicit_point(
+    rule: &CavityRule,
+    b: i64,
+    r: i128,
+    left: &Point,
+    own: &Point,
+    right: &Point,
+) -> Point
+    requires rule { IsRule rule.now }
     requires impedance { IsImpedance b }
     requires resistance { IsResistance r }
     requires left_in { IsPoint left.now }
     requires own_in { IsPoint own.now }
     requires right_in { IsPoint right.now }
-    ensures { result ≡ liquid_of b r left.now own.now right.now }
+    ensures { result ≡ inner_of ExplicitFriction rule.now b r left.now own.now right.now }
 {
     match own {
-        Point::Good { .. } => liquid_if(b, arrive_plus(b, r, left), arrive_minus(b, r, right)),
+        Point::Good { qu, qd, v, .. } => {
+            let plus = explicit_plus(b, r, left);
+            let minus = explicit_minus(b, r, right);
+            explicit_if(rule, b, plus, minus, &old_cavity(*qu, *qd, *v))
+        }
         Point::Bad => Point::Bad,
     }
 }
 
-// What a cavity keeps from the step before: the flows on its two sides and its volume.
-#[derive(Drop)]
-struct Old {
-    qu: i64,
-    qd: i64,
-    v: i64,
-}
-
-fn liquid_if(b: i64, plus: Option<i64>, minus: Option<i64>) -> Point
+/// `inner_point` with friction taken linearly: each characteristic has an impedance of its own.
+#[tactic(auto, unfolding(crate::specs::Interior::inner_point))]
+pub fn linear_point(
+    rule: &CavityRule,
+    b: i64,
+    r: i128,
+    left: &Point,
+    own: &Point,
+    right: &Point,
+) -> Point
+    requires rule { IsRule rule.now }
     requires impedance { IsImpedance b }
-    requires plus_in { IfSome plus (λ c. unsigned_abs c ≤ 10_000_000_000_000) }
-    requires minus_in { IfSome minus (λ c. unsigned_abs c ≤ 10_000_000_000_000) }
-    ensures { result ≡ meeting_of b plus minus }
+    requires resistance { IsResistance r }
+    requires left_in { IsPoint left.now }
+    requires own_in { IsPoint own.now }
+    requires right_in { IsPoint right.now }
+    ensures { result ≡ inner_of LinearFriction rule.now b r left.now own.now right.now }
 {
-    match (plus, minus) {
-        (Some(plus), Some(minus)) => {
-            liquid(meeting_head(plus, minus), meeting_flow(b, plus, minus))
+    match own {
+        Point::Good { qu, qd, v, .. } => {
+            let plus = linear_plus(b, r, left);
+            let minus = linear_minus(b, r, right);
+            linear_if(rule, plus, minus, &old_cavity(*qu, *qd, *v))
         }
-        _ => Point::Bad,
+        Point::Bad => Point::Bad,
     }
 }
 
-fn meet_if(rule: &CavityRule, b: i64, plus: Option<i64>, minus: Option<i64>, old: &Old) -> Point
+// What a cavity keeps from the step before: its volume and its growth.
+#[derive(Drop)]
+struct Old {
+    volume: i64,
+    growth: i64,
+}
+
+fn old_cavity(qu: i64, qd: i64, volume: i64) -> Old
+    requires up_in { unsigned_abs qu ≤ 1_000_000_000_000 }
+    requires down_in { unsigned_abs qd ≤ 1_000_000_000_000 }
+    ensures volume { result.volume ≡ volume }
+    ensures growth { result.growth ≡ growth_of qu qd }
+{
+    Old {
+        volume,
+        growth: growth(qu, qd),
+    }
+}
+
+fn explicit_if(rule: &CavityRule, b: i64, plus: Option<i64>, minus: Option<i64>, old: &Old) -> Point
     requires rule { IsRule rule.now }
     requires impedance { IsImpedance b }
     requires plus_in { IfSome plus (λ c. unsigned_abs c ≤ 10_000_000_000_000) }
     requires minus_in { IfSome minus (λ c. unsigned_abs c ≤ 10_000_000_000_000) }
-    requires up_in { unsigned_abs old.now.qu ≤ 1_000_000_000_000 }
-    requires down_in { unsigned_abs old.now.qd ≤ 1_000_000_000_000 }
-    requires volume_in { unsigned_abs old.now.v ≤ 1_000_000_000_000_000 }
-    ensures { result ≡ meet_of rule.now b plus minus old.now.qu old.now.qd old.now.v }
+    ensures { result ≡ meet_of rule.now (with_impedance b plus) (with_impedance b minus) old.now.volume old.now.growth }
 {
     match (plus, minus) {
-        (Some(plus), Some(minus)) => meet(rule, b, plus, minus, old),
+        (Some(plus), Some(minus)) => explicit_meet(
+            rule,
+            &Arrival { c: plus, b },
+            &Arrival { c: minus, b },
+            old,
+        ),
+        _ => Point::Bad,
+    }
+}
+
+fn linear_if(rule: &CavityRule, plus: Option<Arrival>, minus: Option<Arrival>, old: &Old) -> Point
+    requires rule { IsRule rule.now }
+    requires plus_in { IfSome plus IsArrival }
+    requires minus_in { IfSome minus IsArrival }
+    ensures { result ≡ meet_of rule.now plus minus old.now.volume old.now.growth }
+{
+    match (plus, minus) {
+        (Some(plus), Some(minus)) => linear_meet(rule, &plus, &minus, old),
         _ => Point::Bad,
     }
 }
 
 #[tactic(auto, unfolding(crate::specs::Interior::meet))]
-fn meet(rule: &CavityRule, b: i64, plus: i64, minus: i64, old: &Old) -> Point
+fn explicit_meet(rule: &CavityRule, plus: &Arrival, minus: &Arrival, old: &Old) -> Point
     requires rule { IsRule rule.now }
-    requires impedance { IsImpedance b }
-    requires plus_in { unsigned_abs plus ≤ 10_000_000_000_000 }
-    requires minus_in { unsigned_abs minus ≤ 10_000_000_000_000 }
-    requires up_in { unsigned_abs old.now.qu ≤ 1_000_000_000_000 }
-    requires down_in { unsigned_abs old.now.qd ≤ 1_000_000_000_000 }
-    requires volume_in { unsigned_abs old.now.v ≤ 1_000_000_000_000_000 }
-    ensures { result ≡ met_of rule.now b plus minus old.now.qu old.now.qd old.now.v }
+    requires plus_in { IsArrival plus.now }
+    requires minus_in { IsArrival minus.now }
+    requires same { plus.now.b ≡ minus.now.b }
+    ensures { result ≡ met_of rule.now plus.now minus.now old.now.volume old.now.growth }
 {
-    let head = meeting_head(plus, minus);
-    if old.v == 0 && head >= rule.hv {
-        return liquid(head, meeting_flow(b, plus, minus));
+    let head = halfway(plus, minus);
+    if old.volume == 0 && head >= rule.hv {
+        return liquid(head, meeting_flow(plus, minus));
     }
-    with_cavity(rule, b, plus, minus, old)
+    with_cavity(rule, plus, minus, head, old)
 }
 
-fn with_cavity(rule: &CavityRule, b: i64, plus: i64, minus: i64, old: &Old) -> Point
+#[tactic(auto, unfolding(crate::specs::Interior::meet))]
+fn linear_meet(rule: &CavityRule, plus: &Arrival, minus: &Arrival, old: &Old) -> Point
     requires rule { IsRule rule.now }
-    requires impedance { IsImpedance b }
-    requires plus_in { unsigned_abs plus ≤ 10_000_000_000_000 }
-    requires minus_in { unsigned_abs minus ≤ 10_000_000_000_000 }
-    requires up_in { unsigned_abs old.now.qu ≤ 1_000_000_000_000 }
-    requires down_in { unsigned_abs old.now.qd ≤ 1_000_000_000_000 }
-    requires volume_in { unsigned_abs old.now.v ≤ 1_000_000_000_000_000 }
-    ensures { result ≡ cavity_at rule.now b plus minus
-        (volume_of rule.now old.now.v (growth_of old.now.qu old.now.qd) (growth_of (before_of b rule.now.hv plus) (after_of b rule.now.hv minus))) }
+    requires plus_in { IsArrival plus.now }
+    requires minus_in { IsArrival minus.now }
+    ensures { result ≡ met_of rule.now plus.now minus.now old.now.volume old.now.growth }
 {
-    let before = flow_before(b, rule.hv, plus);
-    let after = flow_after(b, rule.hv, minus);
-    let volume = cavity_volume(rule, old.v, growth(old.qu, old.qd), growth(before, after));
+    let head = meeting_head(plus, minus);
+    if old.volume == 0 && head >= rule.hv {
+        return liquid(head, meeting_flow(plus, minus));
+    }
+    with_cavity(rule, plus, minus, head, old)
+}
+
+fn with_cavity(rule: &CavityRule, plus: &Arrival, minus: &Arrival, head: i64, old: &Old) -> Point
+    requires rule { IsRule rule.now }
+    requires plus_in { IsArrival plus.now }
+    requires minus_in { IsArrival minus.now }
+    requires head { head ≡ head_of plus.now minus.now }
+    ensures { result ≡ cavity_at rule.now plus.now minus.now
+        (volume_of rule.now old.now.volume old.now.growth
+        (growth_of (before_of rule.now.hv plus.now) (after_of rule.now.hv minus.now))) }
+{
+    let before = flow_before(rule.hv, plus);
+    let after = flow_after(rule.hv, minus);
+    let volume = cavity_volume(rule, old.volume, old.growth, growth(before, after));
     if volume > 0 {
         return open_cavity(rule.hv, before, after, volume);
     }
-    closed_cavity(rule.hv, b, plus, minus)
+    liquid(head.max(rule.hv), meeting_flow(plus, minus))
 }
 
 fn open_cavity(hv: i64, before: i64, after: i64, volume: i128) -> Point
@@ -162,43 +231,30 @@ fn open_cavity(hv: i64, before: i64, after: i64, volume: i128) -> Point
     point_of(hv as i128, before as i128, after as i128, volume)
 }
 
-fn closed_cavity(hv: i64, b: i64, plus: i64, minus: i64) -> Point
-    requires impedance { IsImpedance b }
-    requires plus_in { unsigned_abs plus ≤ 10_000_000_000_000 }
-    requires minus_in { unsigned_abs minus ≤ 10_000_000_000_000 }
-    ensures { result ≡ liquid_at (int_max (head_of plus minus) hv) (flow_of b plus minus) }
-{
-    let head = meeting_head(plus, minus).max(hv);
-    liquid(head, meeting_flow(b, plus, minus))
-}
-
 fn growth(before: i64, after: i64) -> i64
     requires before_in { unsigned_abs before ≤ 200_000_000_000_000_000 }
     requires after_in { unsigned_abs after ≤ 200_000_000_000_000_000 }
-    ensures value { result ≡ after -ℤ before }
-    ensures size { unsigned_abs result ≤ 400_000_000_000_000_000 }
+    ensures { result ≡ growth_of before after }
 {
     after - before
 }
 
-fn flow_before(b: i64, hv: i64, plus: i64) -> i64
-    requires impedance { IsImpedance b }
+fn flow_before(hv: i64, plus: &Arrival) -> i64
     requires head_in { unsigned_abs hv ≤ 100_000_000_000 }
-    requires plus_in { unsigned_abs plus ≤ 10_000_000_000_000 }
-    ensures value { result ≡ before_of b hv plus }
+    requires plus_in { IsArrival plus.now }
+    ensures value { result ≡ before_of hv plus.now }
     ensures size { unsigned_abs result ≤ 200_000_000_000_000_000 }
 {
-    driven_flow(plus - hv, b)
+    driven_flow(plus.c - hv, plus.b)
 }
 
-fn flow_after(b: i64, hv: i64, minus: i64) -> i64
-    requires impedance { IsImpedance b }
+fn flow_after(hv: i64, minus: &Arrival) -> i64
     requires head_in { unsigned_abs hv ≤ 100_000_000_000 }
-    requires minus_in { unsigned_abs minus ≤ 10_000_000_000_000 }
-    ensures value { result ≡ after_of b hv minus }
+    requires minus_in { IsArrival minus.now }
+    ensures value { result ≡ after_of hv minus.now }
     ensures size { unsigned_abs result ≤ 200_000_000_000_000_000 }
 {
-    driven_flow(hv - minus, b)
+    driven_flow(hv - minus.c, minus.b)
 }
 
 fn liquid(head: i64, flow: i64) -> Point
@@ -207,23 +263,53 @@ fn liquid(head: i64, flow: i64) -> Point
     point_of(head as i128, flow as i128, flow as i128, 0)
 }
 
-#[tactic(auto, unfolding(crate::specs::Interior::meeting_head))]
-fn meeting_head(plus: i64, minus: i64) -> i64
-    requires plus_in { unsigned_abs plus ≤ 10_000_000_000_000 }
-    requires minus_in { unsigned_abs minus ≤ 10_000_000_000_000 }
-    ensures value { result ≡ head_of plus minus }
-    ensures size { unsigned_abs result ≤ 10_000_000_000_000 }
+fn halfway(plus: &Arrival, minus: &Arrival) -> i64
+    requires plus_in { IsArrival plus.now }
+    requires minus_in { IsArrival minus.now }
+    requires same { plus.now.b ≡ minus.now.b }
+    ensures { result ≡ head_of plus.now minus.now }
 {
-    half(plus + minus)
+    half(plus.c + minus.c)
+}
+
+#[tactic(auto, unfolding(crate::specs::Interior::meeting_head))]
+fn meeting_head(plus: &Arrival, minus: &Arrival) -> i64
+    requires plus_in { IsArrival plus.now }
+    requires minus_in { IsArrival minus.now }
+    ensures { result ≡ head_of plus.now minus.now }
+{
+    mean(
+        weighted(plus.c, minus.b),
+        weighted(minus.c, plus.b),
+        plus.b + minus.b,
+    )
+}
+
+fn mean(one: i128, two: i128, weight: i64) -> i64
+    requires low { pos 200_000 ≤ℤ weight }
+    requires high { weight ≤ℤ pos 20_000_000_000_000 }
+    requires one_in { unsigned_abs one ≤ 100_000_000_000_000_000_000_000_000 }
+    requires two_in { unsigned_abs two ≤ 100_000_000_000_000_000_000_000_000 }
+    requires both { unsigned_abs one + unsigned_abs two ≤ 10_000_000_000_000 * unsigned_abs weight }
+    ensures { result ≡ rounded (one +ℤ two) weight }
+{
+    rnd(one + two, weight as i128) as i64
+}
+
+fn weighted(c: i64, z: i64) -> i128
+    requires value_in { unsigned_abs c ≤ 10_000_000_000_000 }
+    requires impedance { IsImpedance z }
+    ensures value { result ≡ c *ℤ z }
+    ensures size { unsigned_abs result ≤ 10_000_000_000_000 * unsigned_abs z }
+{
+    c as i128 * z as i128
 }
 
 #[tactic(auto, unfolding(crate::specs::Interior::meeting_flow))]
-fn meeting_flow(b: i64, plus: i64, minus: i64) -> i64
-    requires impedance { IsImpedance b }
-    requires plus_in { unsigned_abs plus ≤ 10_000_000_000_000 }
-    requires minus_in { unsigned_abs minus ≤ 10_000_000_000_000 }
-    ensures value { result ≡ flow_of b plus minus }
-    ensures size { unsigned_abs result ≤ 200_000_000_000_000_000 }
+fn meeting_flow(plus: &Arrival, minus: &Arrival) -> i64
+    requires plus_in { IsArrival plus.now }
+    requires minus_in { IsArrival minus.now }
+    ensures { result ≡ flow_of plus.now minus.now }
 {
-    driven_flow(plus - minus, 2 * b)
+    driven_flow(plus.c - minus.c, plus.b + minus.b)
 }

@@ -3,14 +3,14 @@
 
 mod arrivals;
 mod cavities;
+mod equal;
+mod impedances;
 mod interior;
 mod losses;
 mod quotients;
 
 pub use arrivals::{arrive_minus, arrive_plus};
 pub use cavities::cavity_volume;
-pub use interior::{inner_point, liquid_point};
+pub use equal::equal_impedances;
+pub use interior::{explicit_point, inner_point, linear_point};
 pub use quotients::{driven_flow, impedance_head};
-
-#[cfg(test)]
-mod tests;

@@ -1,3 +1,4 @@
+//! The head that friction takes along a reach, taken explicitly.
 ghost use Rattle.std.specs.Prelude.{◌≡◌, ◌+◌, ◌*◌, ◌<◌, ◌≤◌, ◌^◌, pos, unsigned_abs};
 ghost use Rattle.fixed_num.specs.Rounding.{rnd as rounded, half_up};
 ghost use Rattle.charline.specs.Characteristics.{IsResistance, friction_head as head_of};

@@ -1,3 +1,4 @@
+//! Heads and flows by an impedance.
 ghost use Rattle.std.specs.Prelude.{◌≡◌, ◌^◌, ◌≤◌, ◌≤ℤ◌, pos, unsigned_abs};
 ghost use Rattle.fixed_num.specs.Rounding.{rnd as rounded, half_up};
 ghost use Rattle.charline.specs.Characteristics.{

@@ -9,7 +9,7 @@ use Rattle.case_model.specs.declared.cases.ProbeAt.TheVariants.{OnPipe, OnNode}
 use Rattle.case_model.specs.declared.meshes.Mesh.{Mesh}
 use Rattle.case_model.specs.declared.meshes.PipeMesh.{PipeMesh}
 use Rattle.case_model.specs.Mesh.{no_pipe, reaches, base_of, IsNumbered}
-use Rattle.envelope.specs.Rows.{number_of, IsOn, place_among, place_at}
+use Rattle.case_model.specs.PlaceNumbers.{number_of, IsOn, place_among, place_at}
 use Rattle.envelope.proofs.Placed.{or-over}
 
 -- the places of some pipes

@@ -7,7 +7,8 @@ use Rattle.case_model.specs.Meaning.{Meaning}
 use Rattle.case_model.specs.Mesh.{IsNumbered}
 use Rattle.case_model.specs.Parts.{probe_at}
 use Rattle.envelope.specs.Folds.{Stands, spans_of, probes_of, steps_of, every_of}
-use Rattle.envelope.specs.Rows.{number_of, IsOn, rows_noted}
+use Rattle.case_model.specs.PlaceNumbers.{number_of, IsOn}
+use Rattle.envelope.specs.Rows.{rows_noted}
 use Rattle.envelope.specs.declared.folds.Fold.{Fold}
 
 -- the place numbers of the probes of a case, in file order

@@ -4,3 +4,4 @@ pub mod Put
 pub mod Between
 pub mod Texts
 pub mod Back
+pub mod RootLaws

@@ -3,11 +3,13 @@
 #![tactic(auto)]
 
 mod decimal;
+mod roots;
 mod rounding;
 mod tables;
 mod written;
 
 pub use decimal::{NumberFault, read_decimal};
 pub use rounding::rnd;
-pub use tables::{interp, root};
+pub use roots::{root, root_is_greatest};
+pub use tables::interp;
 pub use written::write_decimal;

@@ -18,7 +18,6 @@ ghost use Rattle.std.specs.Prelude.{
 ghost use Rattle.std.specs.List.{All};
 ghost use Rattle.fixed_num.specs.Rounding.{rnd as rounded};
 ghost use Rattle.fixed_num.specs.Tables.{
-  IsRoot,
   IsBetween,
   IsInterpolated,
   Rises,
@@ -28,14 +27,6 @@ ghost use Rattle.fixed_num.specs.Tables.{
 };
 
 use crate::rounding::rnd;
-
-/// The greatest whole number whose square is at most `n`.
-pub fn root(n: i128) -> i128
-    requires { pos 0 ≤ℤ n }
-    ensures { IsRoot n result }
-{
-    n.isqrt()
-}
 
 /// The value at `t` of a table of points: that of the first point before it, that of the last after
 /// it, and between two points the rounded value on the line from one to the other.

@@ -1,21 +1,10 @@
 -- The sizes of rounded quotients at a node.
-use Rattle.std.proofs.Common.{◌≡◌, ℕ, suc, ◌+◌, ◌*◌, ◌/◌, ◌%◌, ◌<◌, ◌≤◌, ℤ, pos, negsuc, ◌*ℤ◌, ◌≤ℤ◌, unsigned_abs, ⊎_elim, w64, FitsSigned, arith}
-use Rattle.std.proofs.lemmas.Int.{ints, unsigned_abs-mul, fits_signed_from_abs}
-use Rattle.std.proofs.lemmas.Bool.{cases_lt}
-use Rattle.std.proofs.lemmas.Nat.{mul-le, le-div, div_below}
+use Rattle.std.proofs.Common.{◌≡◌, ℕ, suc, ◌+◌, ◌*◌, ◌/◌, ◌%◌, ◌<◌, ◌≤◌, ℤ, pos, negsuc, ◌*ℤ◌, ◌≤ℤ◌, unsigned_abs, arith}
+use Rattle.std.proofs.lemmas.Int.{ints, unsigned_abs-mul}
+use Rattle.std.proofs.lemmas.Nat.{le-div, div_below}
 use Rattle.fixed_num.specs.Rounding.{rnd, half_up}
 use Rattle.charline.specs.Characteristics.{driven_flow}
-
-pub fits : (z : ℤ) → unsigned_abs z ≤ 1000000000000000000 → FitsSigned w64 z
-fits z h = fits_signed_from_abs w64 z (omega arith)
-
-pub weighted_below : (c w : ℤ) → unsigned_abs c ≤ 10000000000000 → unsigned_abs (c *ℤ w) ≤ 10000000000000 * unsigned_abs w
-weighted_below c w h = rw (unsigned_abs-mul c w) (mul-le (unsigned_abs c) (unsigned_abs w) 10000000000000 (unsigned_abs w) h (omega arith))
-
--- a weighted mean is no further from 0 than what it is the mean of
-mean_below : (x w h most : ℕ) → 0 < w → h ≤ most * w → 2 * x * w ≤ 2 * h + w → x ≤ most
-mean_below x w h most p k m =
-    ⊎_elim (λ over. let f : suc most * w ≤ x * w = mul-le (suc most) w x w over (omega arith) in absurd (omega arith)) (λ within. within) (cases_lt most x)
+use Rattle.charline.proofs.Sizes.{mean_below}
 
 pub mean_size : (x heads weights : ℤ) → pos 1 ≤ℤ weights → unsigned_abs heads ≤ 10010000000000000 * unsigned_abs weights → 2 * unsigned_abs x * unsigned_abs weights ≤ 2 * unsigned_abs heads + unsigned_abs weights → unsigned_abs x ≤ 10010000000000000
 mean_size x heads weights p k m = mean_below (unsigned_abs x) (unsigned_abs weights) (unsigned_abs heads) 10010000000000000 (omega (arith, ints)) k m

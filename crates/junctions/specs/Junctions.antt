@@ -54,11 +54,3 @@ junction_state rule demand Bad arrivals = Bad
 
 unfoldable pub junction_flows : CavityRule → ℤ → NodeState → List Arrival → List ℤ
 junction_flows rule demand own arrivals = flows_of (junction_state rule demand own arrivals) arrivals
-
--- the branch of the law of a junction in which no cavity is or opens
-unfoldable pub liquid_junction_state : ℤ → NodeState → List Arrival → NodeState
-liquid_junction_state demand (Good h v g) arrivals = liquid (junction_head demand arrivals) arrivals
-liquid_junction_state demand Bad arrivals = Bad
-
-unfoldable pub liquid_junction_flows : ℤ → NodeState → List Arrival → List ℤ
-liquid_junction_flows demand own arrivals = flows_of (liquid_junction_state demand own arrivals) arrivals

@@ -1,9 +1,14 @@
 -- Sums over what arrives at a node. After Wylie and Streeter, Fluid Transients in Systems: junctions
 -- of pipes, where each characteristic counts by the inverse of its impedance.
-use Rattle.std.specs.Prelude.{ℤ, pos, ◌+ℤ◌, ◌*ℤ◌, List, [], ◌∷◌}
+use Rattle.std.specs.Prelude.{ℕ, ℤ, pos, ◌+ℤ◌, ◌*ℤ◌, List, [], ◌∷◌}
 use Rattle.fixed_num.specs.Rounding.{rnd}
 use Rattle.case_model.specs.declared.meshes.Arrival.{Arrival}
+use Rattle.case_model.specs.Refusals.{most_ends}
 use Rattle.charline.specs.Characteristics.{flow_in}
+
+-- the most arrivals at a node: its ends in version 2 of the case text
+abbrev pub most_arrivals : ℕ
+most_arrivals = most_ends 2
 
 -- the weight of an arrival: the inverse of its impedance, in 1e-16 m2/s
 unfoldable pub admittance : ℤ → ℤ

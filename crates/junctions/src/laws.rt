@@ -1,3 +1,4 @@
+//! The laws of reservoirs and junctions.
 ghost use Rattle.std.specs.Prelude.{◌≡◌, ◌<◌, ◌≤◌, ◌*◌, ◌==◌, ◌&&◌, ◌≤ℤ◌, int_le, pos, unsigned_abs, length, All};
 ghost use Rattle.fixed_num.specs.Rounding.{rnd as rounded};
 ghost use Rattle.std.specs.Int.{int_max};
@@ -14,9 +15,8 @@ ghost use Rattle.junctions.specs.Junctions.{
   kept_or_closed as kept_of,
   junction_state,
   junction_flows,
-  liquid_junction_state,
-  liquid_junction_flows,
 };
+ghost use Rattle.junctions.specs.Sums.{most_arrivals};
 
 use crate::levels::{bad_state, state_at, state_with_flows};
 use crate::sums::{weighted_sums, write_inflows};
@@ -31,7 +31,7 @@ use fixed_num::rnd;
 pub fn reservoir(head: i64, arrivals: &[Arrival], flows: &mut [i64]) -> NodeState
     requires head_in { IsHead head }
     requires some { 0 < length arrivals.now }
-    requires few { length arrivals.now ≤ 8 }
+    requires few { length arrivals.now ≤ most_arrivals }
     requires each { length flows.old ≡ length arrivals.now }
     requires arrivals_in { All IsArrival arrivals.now }
     ensures state { result ≡ reservoir_state head arrivals.now }
@@ -56,7 +56,7 @@ pub fn junction(
     requires demand_in { IsFlow demand }
     requires own_in { IsState own.now }
     requires some { 0 < length arrivals.now }
-    requires few { length arrivals.now ≤ 8 }
+    requires few { length arrivals.now ≤ most_arrivals }
     requires each { length flows.old ≡ length arrivals.now }
     requires arrivals_in { All IsArrival arrivals.now }
     ensures state { result ≡ junction_state rule.now demand own.now arrivals.now }
@@ -64,38 +64,6 @@ pub fn junction(
 {
     match own {
         NodeState::Good { v, g, .. } => junction_after(rule, demand, *v, *g, arrivals, flows),
-        NodeState::Bad => bad_state(flows),
-    }
-}
-
-/// The branch of the law of a junction in which no cavity is or opens: its state without a cavity,
-/// whatever the vapour head. Bad as of `junction`.
-#[tactic(auto, unfolding(crate::specs::Junctions::liquid_junction_state, crate::specs::Junctions::liquid_junction_flows, crate::specs::Levels::flows_of))]
-pub fn liquid_junction(
-    demand: i64,
-    own: &NodeState,
-    arrivals: &[Arrival],
-    flows: &mut [i64],
-) -> NodeState
-    requires demand_in { IsFlow demand }
-    requires own_in { IsState own.now }
-    requires some { 0 < length arrivals.now }
-    requires few { length arrivals.now ≤ 8 }
-    requires each { length flows.old ≡ length arrivals.now }
-    requires arrivals_in { All IsArrival arrivals.now }
-    ensures state { result ≡ liquid_junction_state demand own.now arrivals.now }
-    ensures flows { flows.new ≡ liquid_junction_flows demand own.now arrivals.now }
-{
-    match own {
-        NodeState::Good { .. } => {
-            state_at(
-                junction_head(demand, arrivals) as i128,
-                0,
-                0,
-                arrivals,
-                flows,
-            )
-        }
         NodeState::Bad => bad_state(flows),
     }
 }
@@ -113,7 +81,7 @@ fn junction_after(
     requires volume_in { unsigned_abs volume ≤ 1_000_000_000_000_000 }
     requires growth_in { unsigned_abs growth ≤ 10_000_000_000_000_000 }
     requires some { 0 < length arrivals.now }
-    requires few { length arrivals.now ≤ 8 }
+    requires few { length arrivals.now ≤ most_arrivals }
     requires each { length flows.old ≡ length arrivals.now }
     requires arrivals_in { All IsArrival arrivals.now }
     ensures state { result ≡ after_of rule.now demand (head_of demand arrivals.now) volume growth arrivals.now }
@@ -142,7 +110,7 @@ fn kept_or_closed(
     arrivals: &[Arrival],
     flows: &mut [i64],
 ) -> NodeState
-    requires few { length arrivals.now ≤ 8 }
+    requires few { length arrivals.now ≤ most_arrivals }
     requires written { flows.old ≡ inflows hv arrivals.now }
     requires arrivals_in { All IsArrival arrivals.now }
     ensures state { result ≡ kept_of hv head growth volume arrivals.now }
@@ -158,7 +126,7 @@ fn kept_or_closed(
 fn junction_head(demand: i64, arrivals: &[Arrival]) -> i64
     requires demand_in { IsFlow demand }
     requires some { 0 < length arrivals.now }
-    requires few { length arrivals.now ≤ 8 }
+    requires few { length arrivals.now ≤ most_arrivals }
     requires arrivals_in { All IsArrival arrivals.now }
     ensures value { result ≡ head_of demand arrivals.now }
     ensures size { unsigned_abs result ≤ 10_010_000_000_000_000 }
@@ -169,7 +137,7 @@ fn junction_head(demand: i64, arrivals: &[Arrival]) -> i64
 
 fn mean(heads: i128, weights: i128) -> i64
     requires low { pos 1 ≤ℤ weights }
-    requires high { weights ≤ℤ pos 800_000_000_000_000_000 }
+    requires high { weights ≤ℤ pos 1_600_000_000_000_000_000 }
     requires heads_in { unsigned_abs heads ≤ 10_010_000_000_000_000 * unsigned_abs weights }
     ensures value { result ≡ rounded heads weights }
     ensures size { unsigned_abs result ≤ 10_010_000_000_000_000 }

@@ -1,8 +1,10 @@
+//! A node with one head: its state and the flows into it.
 ghost use Rattle.std.specs.Prelude.{◌≡◌, ◌≤◌, pos, unsigned_abs, length, replicate, All};
 ghost use Rattle.std.specs.List.{list_all};
 ghost use Rattle.case_model.specs.declared.states.NodeState.TheVariants.{Bad as BadState};
 ghost use Rattle.charline.specs.Characteristics.{IsArrival};
 ghost use Rattle.junctions.specs.Levels.{is_flow, inflows, state_at as state_of_node, filled as filled_at, flows_of};
+ghost use Rattle.junctions.specs.Sums.{most_arrivals};
 
 use crate::sums::write_inflows;
 use case_model::{Arrival, NodeState, state_of};
@@ -18,7 +20,7 @@ pub fn state_at(
     arrivals: &[Arrival],
     flows: &mut [i64],
 ) -> NodeState
-    requires few { length arrivals.now ≤ 8 }
+    requires few { length arrivals.now ≤ most_arrivals }
     requires each { length flows.old ≡ length arrivals.now }
     requires arrivals_in { All IsArrival arrivals.now }
     ensures state { result ≡ state_of_node head volume growth arrivals.now }
@@ -57,7 +59,7 @@ pub fn state_with_flows(
 /// growth is the sum of `flows`, which are as of `state_at`. Bad as there.
 #[tactic(auto, unfolding(crate::specs::Levels::state_at, crate::specs::Levels::flows_of))]
 pub fn filled(head: i128, volume: i128, arrivals: &[Arrival], flows: &mut [i64]) -> NodeState
-    requires few { length arrivals.now ≤ 8 }
+    requires few { length arrivals.now ≤ most_arrivals }
     requires each { length flows.old ≡ length arrivals.now }
     requires arrivals_in { All IsArrival arrivals.now }
     ensures state { result ≡ filled_at head volume arrivals.now }

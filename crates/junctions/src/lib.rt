@@ -8,9 +8,6 @@ mod laws;
 mod levels;
 mod sums;
 
-pub use laws::{junction, liquid_junction, reservoir};
+pub use laws::{junction, reservoir};
 pub use levels::{bad_state, filled, state_at, state_with_flows};
-pub use sums::{weighted_sums, write_inflows};
-
-#[cfg(test)]
-mod tests;
+pub use sums::{MOST_ENDS, weighted_sums, write_inflows};

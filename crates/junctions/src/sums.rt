@@ -1,3 +1,4 @@
+//! Sums over what arrives at a node.
 ghost use Rattle.std.specs.Prelude.{
   ◌≡◌,
   ◌<◌,
@@ -13,6 +14,7 @@ ghost use Rattle.std.specs.Prelude.{
 ghost use Rattle.fixed_num.specs.Rounding.{half_up};
 ghost use Rattle.charline.specs.Characteristics.{IsImpedance, IsArrival, flow_in as flow_of};
 ghost use Rattle.junctions.specs.Sums.{
+  most_arrivals,
   admittance as admittance_of,
   weight,
   weighted_head,
@@ -24,15 +26,18 @@ ghost use Rattle.junctions.specs.Levels.{inflows};
 use case_model::Arrival;
 use charline::driven_flow;
 
+/// The most pipe ends at a node, in version 2 of the case text.
+pub const MOST_ENDS: usize = 16;
+
 /// The sums over a node's arrivals of characteristic value times weight and of the weights, where a
 /// weight is the inverse of an impedance in 1e-16 m2/s.
 pub fn weighted_sums(arrivals: &[Arrival]) -> (i128, i128)
-    requires few { length arrivals.now ≤ 8 }
+    requires few { length arrivals.now ≤ most_arrivals }
     requires arrivals_in { All IsArrival arrivals.now }
     ensures heads { result.0 ≡ sum_of weighted_head arrivals.now }
     ensures weights { result.1 ≡ sum_of weight arrivals.now }
     ensures low { pos (1_000_000_000 * length arrivals.now) ≤ℤ result.1 }
-    ensures high { result.1 ≤ℤ pos 800_000_000_000_000_000 }
+    ensures high { result.1 ≤ℤ pos 1_600_000_000_000_000_000 }
     ensures size { unsigned_abs result.0 ≤ 10_000_000_000_000 * unsigned_abs result.1 }
 {
     let mut heads = 0i128;
@@ -48,12 +53,12 @@ pub fn weighted_sums(arrivals: &[Arrival]) -> (i128, i128)
 /// Writes the flow into a node (1e-9 m3/s) along each arrival at a head (1e-6 m), and answers their sum.
 pub fn write_inflows(head: i64, arrivals: &[Arrival], flows: &mut [i64]) -> i64
     requires head_in { unsigned_abs head ≤ 100_000_000_000 }
-    requires few { length arrivals.now ≤ 8 }
+    requires few { length arrivals.now ≤ most_arrivals }
     requires each { length flows.old ≡ length arrivals.now }
     requires arrivals_in { All IsArrival arrivals.now }
     ensures flows { flows.new ≡ inflows head arrivals.now }
     ensures sum { result ≡ inflow_of head arrivals.now }
-    ensures size { unsigned_abs result ≤ 900_000_000_000_000_000 }
+    ensures size { unsigned_abs result ≤ 1_800_000_000_000_000_000 }
 {
     let mut sum = 0;
     for (i, arrival) in arrivals.iter().enumerate() {

@@ -1,5 +1,6 @@
 -- Of lines that break no rule on counts the parts are few, and there is a pipe.
 use Rattle.std.proofs.Common.{ℕ, ◌+◌, ◌<◌, ◌≤◌, ◌≡◌, ◌==◌, ◌||◌, not, nat_lt, Bool, true, false, IsTrue, cond, Option, Some, None, List, [], ◌∷◌, length, codes, ap, sym, subst, ◌∙◌, refl, arith}
+use Rattle.std.proofs.lemmas.Bool.{false_from_ne_true}
 use Rattle.std.specs.List.{list_any, cons_option}
 use Rattle.std.proofs.lemmas.List.Sums.{sum_by-cons}
 use Rattle.std.proofs.lemmas.Bool.Decides.{nat_tests}
@@ -94,17 +95,13 @@ probes_count pipes nodes line (fields ∷ lines) =
     probe_one pipes nodes (said fields) line fields (probes_from pipes nodes (line + 1) lines) ∙ add_same (one_if (is_sampled (said fields))) _ _ (probes_count pipes nodes (line + 1) lines) ∙ sym (count_more is_sampled fields lines)
 
 -- what the rules on counts say of the counts
-not_true : (b : Bool) → (IsTrue b → ⊥) → b ≡ false
-not_true true h = absurd (h refl)
-not_true false h = refl
-
 complete : (lines : List (List (List ℕ))) → IsEmpty (count_rules lines) → is_incomplete lines ≡ false
 unfolding count_rules
-complete lines empty = not_true (is_incomplete lines) (λ h. empty 0 8 (rw h refl))
+complete lines empty = false_from_ne_true (is_incomplete lines) (λ h. empty 0 8 (rw h refl))
 
 not_large : (lines : List (List (List ℕ))) → IsEmpty (count_rules lines) → is_too_large lines ≡ false
 unfolding count_rules
-not_large lines empty = not_true (is_too_large lines) (λ h. empty 0 10 (rw h refl))
+not_large lines empty = false_from_ne_true (is_too_large lines) (λ h. empty 0 10 (rw h refl))
 
 -- each count is at most this
 record AreFew (t n p q : ℕ) : Type 0 where

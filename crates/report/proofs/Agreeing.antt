@@ -9,7 +9,7 @@ use Rattle.case_model.specs.declared.cases.ProbeAt.{ProbeAt}
 use Rattle.case_model.specs.declared.cases.ProbeAt.TheVariants.{OnNode}
 use Rattle.case_model.specs.declared.meshes.Mesh.{Mesh}
 use Rattle.case_model.specs.Parts.{probe_at}
-use Rattle.envelope.specs.Rows.{IsOn}
+use Rattle.case_model.specs.PlaceNumbers.{IsOn}
 use Rattle.envelope.specs.declared.extremes.Extreme.{Extreme}
 use Rattle.report.specs.Peaks.{highest, lowest}
 use Rattle.report.specs.Places.{IsOnPipe, node_places, pipe_places, places}

@@ -9,19 +9,8 @@ use Rattle.case_model.specs.declared.cases.ProbeAt.{ProbeAt}
 use Rattle.case_model.specs.declared.cases.ProbeAt.TheVariants.{OnPipe, OnNode}
 use Rattle.case_model.specs.declared.meshes.Mesh.{Mesh}
 use Rattle.case_model.specs.declared.meshes.PipeMesh.{PipeMesh}
-use Rattle.envelope.specs.Rows.{IsOn, number_of}
+use Rattle.case_model.specs.PlaceNumbers.{IsOn, number_of}
 use Rattle.report.specs.Places.{IsOnPipe}
-
-places_until : (mesh : Mesh) (p : ℕ) → p < length mesh.pipes → places_before mesh p + (reaches mesh p + 1) ≤ places_before mesh (length mesh.pipes)
-places_until mesh p h =
-    let f : PipeMesh → ℕ = λ pipe. pipe.reaches + 1 in
-    let e : sum_by f (take (length mesh.pipes) mesh.pipes) ≡ sum_by f mesh.pipes = ap (sum_by f) (take_all (length mesh.pipes) mesh.pipes (omega arith)) in
-    omega (arith, e, sum_by_more_le f mesh.pipes p no_pipe h)
-
--- the number of a place of the mesh is below the count of places
-pub number-below : (mesh : Mesh) (at : ProbeAt) → IsNumbered mesh → IsOn mesh at → number_of mesh at < mesh.places
-number-below mesh (OnNode node) numbered on = omega (arith, numbered.all)
-number-below mesh (OnPipe pipe place) numbered on = omega (arith, on.1, numbered.bases pipe on.0, numbered.all, places_until mesh pipe on.0)
 
 -- a place of a pipe is one of the mesh
 pub on_pipe : (mesh : Mesh) (at : ProbeAt) → IsOnPipe mesh at → IsOn mesh at

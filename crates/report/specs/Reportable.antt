@@ -1,12 +1,13 @@
 -- What a report is written from: a case within its limits, its mesh, and a fold over all places of the mesh.
-use Rattle.std.specs.Prelude.{◌≡◌, ◌<◌, ◌≤◌, [], ◌∷◌, length, All}
+use Rattle.std.specs.Prelude.{◌≡◌, ℕ, ◌<◌, ◌≤◌, true, length, All}
 use Rattle.case_model.specs.Mesh.{IsNumbered}
+use Rattle.case_model.specs.PlaceNumbers.{IsOn, number_of}
 use Rattle.case_model.specs.declared.cases.Case.{Case}
 use Rattle.case_model.specs.declared.cases.ProbeAt.{ProbeAt}
 use Rattle.case_model.specs.declared.meshes.Mesh.{Mesh}
+use Rattle.envelope.specs.Cells.{is_within}
 use Rattle.envelope.specs.Folds.{spans_of, probes_of, steps_of, every_of}
 use Rattle.envelope.specs.Kept.{extreme_kept}
-use Rattle.envelope.specs.Rows.{IsOn, number_of}
 use Rattle.envelope.specs.declared.extremes.Extreme.{Extreme}
 use Rattle.envelope.specs.declared.folds.Fold.{Fold}
 
@@ -21,7 +22,7 @@ pub record IsSized (case : Case) (mesh : Mesh) : Type 0 where
 pub record IsOver (mesh : Mesh) (fold : Fold) : Type 0 where
   pub numbered : IsNumbered mesh
   pub few_places : mesh.places ≤ 400_000
-  pub whole : spans_of fold ≡ (0, mesh.places) ∷ []
+  pub whole : (k : ℕ) → k < mesh.places → is_within (spans_of fold) k ≡ true
 
 pub record IsReportable (case : Case) (mesh : Mesh) (fold : Fold) : Type 0 where
   pub sized : IsSized case mesh

@@ -4,7 +4,7 @@ ghost use Rattle.case_model.specs.Samples.{Sample};
 ghost use Rattle.case_model.specs.declared.cases.Case.{Case};
 ghost use Rattle.case_model.specs.declared.cases.ProbeAt.{ProbeAt};
 ghost use Rattle.case_model.specs.declared.meshes.Mesh.{Mesh};
-ghost use Rattle.envelope.specs.Rows.{IsOn};
+ghost use Rattle.case_model.specs.PlaceNumbers.{IsOn};
 ghost use Rattle.envelope.specs.declared.extremes.Extreme.{Extreme};
 ghost use Rattle.report.specs.Peaks.{IsHighest, IsLowest, highest, lowest};
 ghost use Rattle.report.specs.Report.{report_text};

@@ -15,10 +15,3 @@ pub use laws::{peak_is_of_pipes, report_is_of_its_numbers};
 pub use mesh_writing::write_mesh;
 pub use messages::{write_accepted, write_range, write_refusal, write_usage};
 pub use writing::write_report;
-
-#[cfg(test)]
-mod mesh_tests;
-#[cfg(test)]
-mod report_tests;
-#[cfg(test)]
-mod tests;

@@ -2,7 +2,7 @@
 ghost use Rattle.std.specs.Prelude.{◌≡◌, ◌≤◌, ◌<◌, length};
 ghost use Rattle.std.specs.List.{fold as folded};
 ghost use Rattle.case_model.specs.Mesh.{reaches};
-ghost use Rattle.envelope.specs.Rows.{IsOn};
+ghost use Rattle.case_model.specs.PlaceNumbers.{IsOn};
 ghost use Rattle.report.specs.Bounds.{better, passing};
 ghost use Rattle.report.specs.Peaks.{first_unpassed, is_above, is_below};
 ghost use Rattle.report.specs.Places.{IsOnPipe, pipe_places, places_of_pipe};

@@ -4,7 +4,7 @@ ghost use Rattle.surge_io.specs.Bytes.{Appends, AppendsFront};
 ghost use Rattle.surge_io.specs.Faults.{Rose};
 ghost use Rattle.surge_io.specs.Pages.{Adds, AddsFront};
 ghost use Rattle.envelope.specs.Kept.{extreme_kept, sample_kept};
-ghost use Rattle.envelope.specs.Rows.{IsOn, number_of};
+ghost use Rattle.case_model.specs.PlaceNumbers.{IsOn, number_of};
 ghost use Rattle.report.specs.Parts.{lines_of_pipe, node_lines, part_text, pipe_lines, place_line};
 ghost use Rattle.report.specs.Report.{peak_text, probe_line, probe_lines, report_text, samples_text};
 ghost use Rattle.report.specs.Reportable.{IsOver, IsReportable, IsSized, extremes_of};

@@ -15,7 +15,7 @@ use Rattle.case_model.specs.declared.states.NodeState.{NodeState}
 use Rattle.case_model.specs.declared.states.NodeState.TheVariants.{Bad as BadState}
 use Rattle.case_model.specs.Meaning.{Meaning}
 use Rattle.case_model.specs.Mesh.{no_pipe, reaches, base_of, places_before, IsNumbered}
-use Rattle.case_model.specs.RowLaws.{length-states, state-at, pipe-at, point-at, length-points}
+use Rattle.case_model.proofs.RowLaws.{length-states, state-at, pipe-at, point-at, length-points}
 use Rattle.case_model.specs.Rows.{row, points, states, all_points}
 use Rattle.envelope.specs.Cells.{is_within}
 use Rattle.envelope.specs.CellLaws.{below-first}
@@ -23,7 +23,8 @@ use Rattle.envelope.specs.Extremes.{first_of}
 use Rattle.envelope.specs.Folds.{Stands, spans_of, steps_of, IsSameFold}
 use Rattle.envelope.specs.Notings.{Noting, Noted, nothing, only, noted, line_noted, union, Agree}
 use Rattle.envelope.specs.Notings.Noting.{OfPoint, OfNode}
-use Rattle.envelope.specs.Rows.{number_of, IsOn, place_at, noting_at, rows_noted}
+use Rattle.case_model.specs.PlaceNumbers.{number_of, IsOn, place_at}
+use Rattle.envelope.specs.Rows.{noting_at, rows_noted}
 use Rattle.envelope.specs.declared.folds.Fold.{Fold}
 use Rattle.row_steps.specs.Noting.{before_place, HasStates, HasLine, HasLines}
 use Rattle.row_steps.specs.Stepping.{HasPlaces}

@@ -1,3 +1,4 @@
+//! The rows as a fold is told them.
 ghost use Rattle.std.specs.Prelude.{◌≡◌, ℕ, ◌+◌, ◌<◌, true, [], ◌∷◌, length};
 ghost use Rattle.case_model.specs.Mesh.{IsNumbered};
 ghost use Rattle.envelope.specs.Cells.{is_within, AreInOneSpan};

@@ -6,7 +6,7 @@ use Rattle.surge_io.specs.Bytes.{Appends}
 use Rattle.surge_io.specs.ByteLaws.{Appends-append}
 
 -- the bytes behind the first `done`, as the code borrows them
-take-rest : (done : ℕ) (bytes : List ℕ) → take (length bytes - done) (drop done bytes) ≡ drop done bytes
+pub take-rest : (done : ℕ) (bytes : List ℕ) → take (length bytes - done) (drop done bytes) ≡ drop done bytes
 take-rest done bytes = take_all _ _ (omega (arith, length-drop done bytes))
 
 -- the first `done` bytes, and then the first `n` of those behind them, are the first `done + n`

@@ -1,7 +1,8 @@
 //! Bytes in and out of `surge`: sources that give them, sinks that take them, and a count of faults at each.
 //!
-//! What a source has left and what a sink holds is told where the outside allows it: memory tells its bytes,
-//! and a stream tells nothing but its count of faults.
+//! What a source has left and what a sink holds is told where the outside allows it: memory tells its
+//! bytes, and a stream tells none. What was taken from a source is told over each one, by what its
+//! reads gave.
 #![tactic(auto)]
 
 mod line;
@@ -21,6 +22,3 @@ pub use sinks::Sink;
 pub use sources::{Failed, Source};
 pub use stream::{StreamSink, StreamSource};
 pub use writing::put;
-
-#[cfg(test)]
-mod tests;

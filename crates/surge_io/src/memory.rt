@@ -3,6 +3,7 @@ ghost use Rattle.std.specs.Prelude.{◌≡◌, ◌↔◌, ℕ, ◌+◌, ◌-◌,
 ghost use Rattle.surge_io.specs.Bytes.{Appends, Takes};
 ghost use Rattle.surge_io.specs.Faults.{Rose, raised, faults_after_read, faults_after_write};
 ghost use Rattle.surge_io.specs.Memory.{Feed, Store};
+ghost use Rattle.surge_io.specs.Readings.{Loses, given};
 
 use super::sinks::Sink;
 use super::sources::{Failed, Source};
@@ -48,10 +49,13 @@ impl MemorySource {
 impl Source for MemorySource {
     ghost left = { λ s. Some s.left };
 
+    ghost gives = { λ s room bytes t. Loses (Some s.left) (Some t.left) room bytes };
+
     ghost faults = { λ s. s.faults };
 
     fn read(&mut self, into: &mut [u8]) -> Result<usize, Failed>
         ensures count { IfOk result (λ n. n ≤ length into.old) }
+        ensures gave { Loses (Some self.old.left) (Some self.new.left) (length into.old) (given result into.new) }
         ensures bytes { IfOk result (λ n. Takes n into.new (Some self.new.left) self.old.left) }
         ensures unchanged { OnErr result (self.new.left ≡ self.old.left) }
         ensures cause { OnErr result (Rose self.old.faults self.new.faults) }
@@ -103,10 +107,13 @@ impl SteadySource {
 impl Source for SteadySource {
     ghost left = { λ s. Some s };
 
+    ghost gives = { λ s room bytes t. Loses (Some s) (Some t) room bytes };
+
     ghost faults = { λ _. 0 };
 
     fn read(&mut self, into: &mut [u8]) -> Result<usize, Failed>
         ensures count { IfOk result (λ n. n ≤ length into.old) }
+        ensures gave { Loses (Some self.old) (Some self.new) (length into.old) (given result into.new) }
         ensures bytes { IfOk result (λ n. Takes n into.new (Some self.new) self.old) }
 
         // Beyond every source: no call fails, and each gives as many bytes as fit.

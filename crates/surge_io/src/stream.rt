@@ -2,6 +2,7 @@
 ghost use Rattle.std.specs.Io.KnownBytes.{ReadConsumes, WriteAppends};
 ghost use Rattle.std.specs.Prelude.{◌≡◌, ◌<◌, ◌≤◌, None, length, IfOk, OnErr};
 ghost use Rattle.surge_io.specs.Faults.{Rose, faults_after_read, faults_after_write};
+ghost use Rattle.surge_io.specs.Readings.{Loses, given};
 ghost use Rattle.surge_io.specs.Streams.{reader_of, read_faults, writer_of, write_faults};
 
 use super::sinks::Sink;
@@ -28,10 +29,13 @@ impl<R: Read> StreamSource<R> {
 impl<R: Read> Source for StreamSource<R> {
     ghost left = { λ _. None };
 
+    ghost gives = { λ s room bytes t. Loses (R.remaining (reader_of s)) (R.remaining (reader_of t)) room bytes };
+
     ghost faults = { λ s. read_faults s };
 
     fn read(&mut self, into: &mut [u8]) -> Result<usize, Failed>
         ensures count { IfOk result (λ n. n ≤ length into.old) }
+        ensures gave { Loses (R.remaining (reader_of self.old)) (R.remaining (reader_of self.new)) (length into.old) (given result into.new) }
         ensures cause { OnErr result (Rose (read_faults self.old) (read_faults self.new)) }
         ensures later { read_faults self.old ≤ read_faults self.new }
 

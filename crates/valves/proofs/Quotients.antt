@@ -1,21 +1,15 @@
 -- The sizes of the numbers of a valve.
-use Rattle.std.proofs.Common.{◌≡◌, ℕ, suc, ◌+◌, ◌*◌, ◌<◌, ◌≤◌, ℤ, pos, negsuc, ◌*ℤ◌, ◌≤ℤ◌, unsigned_abs, ⊎_elim, w64, FitsSigned, rules, arith}
+use Rattle.std.proofs.Common.{◌≡◌, ℕ, ◌+◌, ◌*◌, ◌<◌, ◌≤◌, ℤ, pos, negsuc, ◌*ℤ◌, ◌≤ℤ◌, int_le, false, not, unsigned_abs, FitsSigned, rules, arith}
 use Rattle.std.specs.Int.{w128}
-use Rattle.std.proofs.lemmas.Bool.{cases_lt}
-use Rattle.std.proofs.lemmas.Int.{ints, unsigned_abs-mul, fits_signed_from_abs, fits_signed_mul}
+use Rattle.std.proofs.lemmas.Int.{ints, unsigned_abs-mul, fits_signed_mul}
 use Rattle.std.proofs.lemmas.Nat.{mul-le}
 use Rattle.fixed_num.specs.Rounding.{rnd}
 use Rattle.case_model.specs.Limits.{IsWithin}
+use Rattle.case_model.specs.Refusals.{is_over}
 use Rattle.charline.specs.Characteristics.{IsImpedance}
+use Rattle.charline.proofs.Sizes.{mean_below}
+use Rattle.fixed_num.proofs.RootLaws.{no_less}
 use Rattle.valves.specs.Orifices.{IsOrifice}
-
-pub fits : (z : ℤ) → unsigned_abs z ≤ 1000000000000000000 → FitsSigned w64 z
-fits z h = fits_signed_from_abs w64 z (omega arith)
-
--- a rounded quotient is no further from 0 than what bounds the quotient
-mean_below : (x w h most : ℕ) → 0 < w → h ≤ most * w → 2 * x * w ≤ 2 * h + w → x ≤ most
-mean_below x w h most p k m =
-    ⊎_elim (λ over. let f : suc most * w ≤ x * w = mul-le (suc most) w x w over (omega arith) in absurd (omega arith)) (λ within. within) (cases_lt most x)
 
 -- the head of a flow at an impedance
 pub head_fits : (b q : ℤ) → IsImpedance b → unsigned_abs q ≤ 200000000000000000 → FitsSigned w128 (b *ℤ q)
@@ -62,6 +56,13 @@ share_below n h0 x h k m =
     omega arith
 
 -- the half flow: the product of a valve bounds it
+allowed : (x y : ℤ) → not (int_le x y) ≡ false → x ≤ℤ y
+allowed x y h = grind (arith, ints)
+
+not_over : (b q0 h0 : ℤ) → IsOrifice b q0 h0 → (b *ℤ q0 *ℤ q0) ≤ℤ (pos 2000000000000000000000000 *ℤ h0)
+unfolding is_over
+not_over b q0 h0 o = allowed (b *ℤ q0 *ℤ q0) (pos 2000000000000000000000000 *ℤ h0) o.product
+
 half_nat : (b q w h : ℕ) → w ≤ q → b * q * q ≤ 2000000000000000000000000 * h → b * (w * w) ≤ 1000000000000000 * (2000000000 * h)
 half_nat b q w h l p =
     let e : w * w ≤ q * q = mul-le w w q q l l in
@@ -70,16 +71,16 @@ half_nat b q w h l p =
 
 half_product : (b q0 w h0 : ℤ) → IsOrifice b q0 h0 → IsWithin (pos 0) q0 w → unsigned_abs (b *ℤ (w *ℤ w)) ≤ 1000000000000000 * unsigned_abs (pos 2000000000 *ℤ h0)
 half_product (pos b) (pos q) (pos w) (pos h) o i =
-    let p : b * q * q ≤ 2000000000000000000000000 * h = omega (arith, ints, o.product) in
+    let p : b * q * q ≤ 2000000000000000000000000 * h = omega (arith, ints, not_over (pos b) (pos q) (pos h) o) in
     half_nat b q w h (omega (arith, ints)) p
-half_product (pos b) (pos q) (pos w) (negsuc h) o i = let l = o.loss.low in absurd (omega (arith, ints))
+half_product (pos b) (pos q) (pos w) (negsuc h) o i = let l = o.valve.loss.low in absurd (omega (arith, ints))
 half_product (pos b) (pos q) (negsuc w) h o i = let l = i.low in absurd (omega (arith, ints))
-half_product (pos b) (negsuc q) w h o i = let l = o.flow.low in absurd (omega (arith, ints))
+half_product (pos b) (negsuc q) w h o i = let l = o.valve.flow.low in absurd (omega (arith, ints))
 half_product (negsuc b) q w h o i = let l = o.impedance.low in absurd (omega (arith, ints))
 
 pub half_below : (b q0 w h0 square x : ℤ) → IsOrifice b q0 h0 → IsWithin (pos 0) q0 w → square ≡ w *ℤ w → 2 * unsigned_abs x * unsigned_abs (pos 2000000000 *ℤ h0) ≤ 2 * unsigned_abs (b *ℤ square) + unsigned_abs (pos 2000000000 *ℤ h0) → unsigned_abs x ≤ 1000000000000001
 half_below b q0 w h0 square x o i e m =
-    let l = o.loss.low in
+    let l = o.valve.loss.low in
     let some : 0 < unsigned_abs (pos 2000000000 *ℤ h0) = omega (arith, ints) in
     let p : unsigned_abs (b *ℤ square) ≤ 1000000000000000 * unsigned_abs (pos 2000000000 *ℤ h0) = rw e (half_product b q0 w h0 o i) in
     let s : unsigned_abs x ≤ 1000000000000000 = mean_below (unsigned_abs x) (unsigned_abs (pos 2000000000 *ℤ h0)) (unsigned_abs (b *ℤ square)) 1000000000000000 some p m in
@@ -90,3 +91,14 @@ half_fits b q0 h0 square o h =
     let low = o.impedance.low in
     let high = o.impedance.high in
     fits_signed_mul w128 b square 20000000000000 1000000000000000000000000 (omega (arith, ints)) h (omega arith)
+
+pub root-most : (n x : ℤ) → unsigned_abs n ≤ 10000000000000000000000000000000000 → unsigned_abs x * unsigned_abs x ≤ unsigned_abs n → unsigned_abs x ≤ 100000000000000000
+root-most n x h below = no_less (unsigned_abs n) (unsigned_abs x) 100000000000000000 below (omega arith)
+
+-- what a valve is judged by
+pub lost_fits : (x q0 : ℤ) → unsigned_abs x ≤ 20000000000000000000000000 → IsWithin (pos 0) (pos 1000000000000) q0 → FitsSigned w128 (x *ℤ q0)
+lost_fits x q0 h k = fits_signed_mul w128 x q0 20000000000000000000000000 1000000000000 h (omega (arith, ints)) (omega arith)
+
+pub lost_below : (x q0 : ℤ) → IsWithin (pos 0) (pos 1000000000000) q0 → unsigned_abs (x *ℤ q0) ≤ 1000000000000 * unsigned_abs x
+lost_below x q0 h =
+    let m : unsigned_abs (x *ℤ q0) ≤ unsigned_abs x * 1000000000000 = rw (unsigned_abs-mul x q0) (mul-le (unsigned_abs x) (unsigned_abs q0) (unsigned_abs x) 1000000000000 (omega arith) (omega (arith, ints))) in omega arith

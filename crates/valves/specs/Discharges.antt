@@ -9,6 +9,7 @@ use Rattle.case_model.specs.declared.meshes.CavityRule.{CavityRule}
 use Rattle.case_model.specs.declared.states.NodeState.{NodeState}
 use Rattle.case_model.specs.declared.states.NodeState.TheVariants.{Good, Bad}
 use Rattle.case_model.specs.Range.{state_of}
+use Rattle.case_model.specs.Refusals.{is_over}
 use Rattle.charline.specs.Characteristics.{flow_in, impedance_head}
 use Rattle.charline.specs.Cavity.{cavity_volume}
 use Rattle.valves.specs.declared.discharges.Valve.{Valve}
@@ -53,10 +54,12 @@ discharge_after rule valve opening q head volume growth a =
     else kept_or_closed rule.hv q head (discharge_growth rule.hv valve opening a)
     (cavity_volume rule volume growth (discharge_growth rule.hv valve opening a)) (flow_in rule.hv a)
 
--- the new state of the node and the flow into it along its end, from the old state: Bad where that is
+-- the new state of the node and the flow into it along its end, from the old state: Bad where that is,
+-- and where the valve is over its limit on its pipe
 unfoldable pub discharge_end : CavityRule → Valve → ℤ → NodeState → Arrival → NodeState × ℤ
 discharge_end rule valve opening (Good h v g) a =
-    discharge_after rule valve opening (liquid_flow valve opening a) (liquid_head a (liquid_flow valve opening a)) v g a
+    if is_over valve.q0 valve.h0 a.b then (Bad, pos 0)
+    else discharge_after rule valve opening (liquid_flow valve opening a) (liquid_head a (liquid_flow valve opening a)) v g a
 discharge_end rule valve opening Bad a = (Bad, pos 0)
 
 unfoldable pub discharge_state : CavityRule → Valve → ℤ → NodeState → Arrival → NodeState
@@ -64,15 +67,3 @@ discharge_state rule valve opening own a = (discharge_end rule valve opening own
 
 unfoldable pub discharge_flow : CavityRule → Valve → ℤ → NodeState → Arrival → ℤ
 discharge_flow rule valve opening own a = (discharge_end rule valve opening own a).1
-
--- the branch of the law of a discharge valve in which no cavity is or opens
-unfoldable pub liquid_discharge_end : Valve → ℤ → NodeState → Arrival → NodeState × ℤ
-liquid_discharge_end valve opening (Good h v g) a =
-    end_at (liquid_head a (liquid_flow valve opening a)) (pos 0) (pos 0) (liquid_flow valve opening a)
-liquid_discharge_end valve opening Bad a = (Bad, pos 0)
-
-unfoldable pub liquid_discharge_state : Valve → ℤ → NodeState → Arrival → NodeState
-liquid_discharge_state valve opening own a = (liquid_discharge_end valve opening own a).0
-
-unfoldable pub liquid_discharge_flow : Valve → ℤ → NodeState → Arrival → ℤ
-liquid_discharge_flow valve opening own a = (liquid_discharge_end valve opening own a).1

@@ -1,4 +1,3 @@
 pub mod Devices
 pub mod Discharges
 pub mod Orifices
-pub mod Roots

@@ -1,18 +1,18 @@
 -- The flow through a valve: the square of a flow is to a head loss as at the flow q0 and the loss h0,
 -- times the square of the opening. After Wylie and Streeter, Fluid Transients in Systems: valve at the
 -- downstream end of a pipe, valve in a line.
-use Rattle.std.specs.Prelude.{ℤ, pos, neg_ℤ, ◌+ℤ◌, ◌-ℤ◌, ◌*ℤ◌, ◌≤ℤ◌, int_lt, unsigned_abs, if◌then◌else◌}
+use Rattle.std.specs.Prelude.{◌≡◌, false, ℤ, pos, neg_ℤ, ◌+ℤ◌, ◌-ℤ◌, ◌*ℤ◌, int_lt, unsigned_abs, if◌then◌else◌}
 use Rattle.fixed_num.specs.Rounding.{rnd}
-use Rattle.case_model.specs.Limits.{IsWithin}
-use Rattle.valves.specs.Roots.{root}
+use Rattle.case_model.specs.Limits.{IsWithin, IsValve}
+use Rattle.case_model.specs.Refusals.{is_over}
+use Rattle.fixed_num.specs.Roots.{root}
 
--- a valve on pipes of this impedance, all together, whose numbers are within their limits: q0 in
--- 1e-9 m3/s, h0 in 1e-6 m
+-- a valve on pipes of this impedance, all together, that is not over its limit: numbers within their
+-- limits, q0 in 1e-9 m3/s and h0 in 1e-6 m, and b*q0^2 at most 2*h0*10^24
 pub record IsOrifice (b q0 h0 : ℤ) : Type 0 where
   pub impedance : IsWithin (pos 100_000) (pos 20_000_000_000_000) b
-  pub flow : IsWithin (pos 0) (pos 1_000_000_000_000) q0
-  pub loss : IsWithin (pos 10_000) (pos 100_000_000_000) h0
-  pub product : (b *ℤ q0 *ℤ q0) ≤ℤ (pos 2_000_000_000_000_000_000_000_000 *ℤ h0)
+  pub valve : IsValve q0 h0
+  pub product : is_over q0 h0 b ≡ false
 
 -- the flow of a valve at this opening (1e-6) under the head loss h0
 unfoldable pub open_flow : ℤ → ℤ → ℤ

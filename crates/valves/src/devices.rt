@@ -1,26 +1,32 @@
+//! Devices between two pipes: the valve in a line, and what goes through a device.
 ghost use Rattle.std.specs.Prelude.{◌≡◌, ◌≤◌, pos, ◌+ℤ◌, unsigned_abs};
-ghost use Rattle.case_model.specs.Limits.{IsWithin};
+ghost use Rattle.case_model.specs.Limits.{IsWithin, IsValve};
 ghost use Rattle.charline.specs.Characteristics.{IsArrival};
 ghost use Rattle.valves.specs.Orifices.{IsOrifice, valve_flow as valve_flow_of};
 ghost use Rattle.valves.specs.Devices.{through_of as through_from, through as through_at, inline_through};
 
 use crate::discharges::Valve;
-use crate::orifices::{half_flow, line_flow, open_flow, square_flow};
+use crate::orifices::{half_flow, is_over, line_flow, open_flow, square_flow};
 use case_model::{Arrival, Through};
 use charline::impedance_head;
 
 /// What goes through a valve in a line at an opening (1e-6), from pipe `one` to pipe `two`; the valve's
-/// outlet head is not read. Bad where the flow or a head is out of range.
+/// outlet head is not read. Bad exactly where the valve is over its limit (b*q0^2 over 2*h0*10^24, with
+/// the sum of both impedances for b), or the flow or a head is out of range.
 /// Wylie and Streeter, Fluid Transients in Systems, valve in a line.
 #[tactic(auto, unfolding(crate::specs::Devices::inline_through))]
 pub fn inline(valve: &Valve, opening: i64, one: &Arrival, two: &Arrival) -> Through
     requires opening_in { IsWithin (pos 0) (pos 1_000_000) opening }
     requires one_in { IsArrival one.now }
     requires two_in { IsArrival two.now }
-    requires valve_in { IsOrifice (one.now.b +ℤ two.now.b) valve.now.q0 valve.now.h0 }
+    requires valve_in { IsValve valve.now.q0 valve.now.h0 }
     ensures { result ≡ inline_through valve.now.q0 valve.now.h0 opening one.now two.now }
 {
-    let flow = valve_flow(one.b + two.b, valve, opening, one.c - two.c);
+    let b = one.b + two.b;
+    if is_over(valve, b) {
+        return Through::Bad;
+    }
+    let flow = valve_flow(b, valve, opening, one.c - two.c);
     through(one, two, flow as i128)
 }
 

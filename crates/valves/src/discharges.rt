@@ -1,3 +1,4 @@
+//! Valves at the end of a pipe, with the discrete vapour cavity.
 ghost use Rattle.std.specs.Prelude.{
   ◌≡◌,
   ◌≤◌,
@@ -9,7 +10,7 @@ ghost use Rattle.std.specs.Prelude.{
   unsigned_abs,
 };
 ghost use Rattle.std.specs.Int.{int_max};
-ghost use Rattle.case_model.specs.Limits.{IsWithin, IsHead};
+ghost use Rattle.case_model.specs.Limits.{IsWithin, IsHead, IsValve};
 ghost use Rattle.case_model.specs.Range.{IsState};
 ghost use Rattle.charline.specs.Characteristics.{IsImpedance, IsArrival, impedance_head as head_of_flow, flow_in as flow_of};
 ghost use Rattle.charline.specs.Cavity.{IsRule};
@@ -25,13 +26,10 @@ ghost use Rattle.valves.specs.Discharges.{
   discharge_end as discharge_of,
   discharge_state,
   discharge_flow,
-  liquid_discharge_end as liquid_of,
-  liquid_discharge_state,
-  liquid_discharge_flow,
 };
 
 use crate::devices::valve_flow;
-use crate::orifices::{open_flow, orifice_flow, square_flow};
+use crate::orifices::{is_over, open_flow, orifice_flow, square_flow};
 use case_model::{Arrival, CavityRule, NodeState, state_of};
 use charline::{cavity_volume, driven_flow, impedance_head};
 use fixed_num::rnd;
@@ -49,8 +47,9 @@ pub struct Valve {
 }
 
 /// The state of a discharge valve at an opening (1e-6) from its old one: its head and its cavity;
-/// `flow` receives the flow into the node (1e-9 m3/s). Bad, with the flow 0, where the old state is Bad
-/// or a number of the new one is out of range. Wylie and Streeter, Fluid Transients in Systems, valve
+/// `flow` receives the flow into the node (1e-9 m3/s). Bad, with the flow 0, exactly where the old state
+/// is Bad, the valve is over its limit on its pipe (b*q0^2 over 2*h0*10^24), or a number of the new
+/// state is out of range. Wylie and Streeter, Fluid Transients in Systems, valve
 /// at the downstream end of a pipe and column separation.
 #[tactic(auto, unfolding(crate::specs::Discharges::discharge_state, crate::specs::Discharges::discharge_flow))]
 pub fn discharge(
@@ -66,34 +65,11 @@ pub fn discharge(
     requires opening_in { IsWithin (pos 0) (pos 1_000_000) opening }
     requires own_in { IsState own.now }
     requires arrival_in { IsArrival arrival.now }
-    requires valve_in { IsOrifice arrival.now.b valve.now.q0 valve.now.h0 }
+    requires valve_in { IsValve valve.now.q0 valve.now.h0 }
     ensures state { result ≡ discharge_state rule.now valve.now opening own.now arrival.now }
     ensures flow { flow.new ≡ discharge_flow rule.now valve.now opening own.now arrival.now }
 {
     let (state, q) = discharge_end(rule, valve, opening, own, arrival);
-    *flow = q;
-    state
-}
-
-/// The branch of the law of a discharge valve in which no cavity is or opens: its state without a
-/// cavity, whatever the vapour head. Bad as of `discharge`.
-#[tactic(auto, unfolding(crate::specs::Discharges::liquid_discharge_state, crate::specs::Discharges::liquid_discharge_flow))]
-pub fn liquid_discharge(
-    valve: &Valve,
-    opening: i64,
-    own: &NodeState,
-    arrival: &Arrival,
-    flow: &mut i64,
-) -> NodeState
-    requires outlet_in { IsHead valve.now.outlet }
-    requires opening_in { IsWithin (pos 0) (pos 1_000_000) opening }
-    requires own_in { IsState own.now }
-    requires arrival_in { IsArrival arrival.now }
-    requires valve_in { IsOrifice arrival.now.b valve.now.q0 valve.now.h0 }
-    ensures state { result ≡ liquid_discharge_state valve.now opening own.now arrival.now }
-    ensures flow { flow.new ≡ liquid_discharge_flow valve.now opening own.now arrival.now }
-{
-    let (state, q) = liquid_end(valve, opening, own, arrival);
     *flow = q;
     state
 }
@@ -111,34 +87,20 @@ fn discharge_end(
     requires opening_in { IsWithin (pos 0) (pos 1_000_000) opening }
     requires own_in { IsState own.now }
     requires arrival_in { IsArrival arrival.now }
-    requires valve_in { IsOrifice arrival.now.b valve.now.q0 valve.now.h0 }
+    requires valve_in { IsValve valve.now.q0 valve.now.h0 }
     ensures { result ≡ discharge_of rule.now valve.now opening own.now arrival.now }
 {
     match own {
         NodeState::Good { v, g, .. } => {
+            if is_over(valve, arrival.b) {
+                return (NodeState::Bad, 0);
+            }
             let q = liquid_flow(valve, opening, arrival);
             let liquid = Liquid {
                 q,
                 head: liquid_head(arrival, q),
             };
             discharge_after(rule, valve, opening, &liquid, *v, *g, arrival)
-        }
-        NodeState::Bad => (NodeState::Bad, 0),
-    }
-}
-
-#[tactic(auto, unfolding(crate::specs::Discharges::liquid_discharge_end))]
-fn liquid_end(valve: &Valve, opening: i64, own: &NodeState, arrival: &Arrival) -> (NodeState, i64)
-    requires outlet_in { IsHead valve.now.outlet }
-    requires opening_in { IsWithin (pos 0) (pos 1_000_000) opening }
-    requires arrival_in { IsArrival arrival.now }
-    requires valve_in { IsOrifice arrival.now.b valve.now.q0 valve.now.h0 }
-    ensures { result ≡ liquid_of valve.now opening own.now arrival.now }
-{
-    match own {
-        NodeState::Good { .. } => {
-            let q = liquid_flow(valve, opening, arrival);
-            end_at(liquid_head(arrival, q), 0, 0, q)
         }
         NodeState::Bad => (NodeState::Bad, 0),
     }

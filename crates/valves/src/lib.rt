@@ -6,11 +6,6 @@
 mod devices;
 mod discharges;
 mod orifices;
-mod roots;
 
 pub use devices::{inline, through};
-pub use discharges::{Valve, discharge, liquid_discharge};
-pub use roots::root_is_greatest;
-
-#[cfg(test)]
-mod tests;
+pub use discharges::{Valve, discharge};

@@ -1,3 +1,4 @@
+//! The flow through a valve.
 ghost use Rattle.std.specs.Prelude.{
   ◌≡◌,
   ◌<◌,
@@ -12,8 +13,9 @@ ghost use Rattle.std.specs.Prelude.{
   unsigned_abs,
 };
 ghost use Rattle.fixed_num.specs.Rounding.{rnd as rounded};
-ghost use Rattle.case_model.specs.Limits.{IsWithin};
-ghost use Rattle.valves.specs.Roots.{root as root_of};
+ghost use Rattle.case_model.specs.Limits.{IsWithin, IsValve};
+ghost use Rattle.case_model.specs.Refusals.{is_over as is_over_of};
+ghost use Rattle.fixed_num.specs.Roots.{root as root_of};
 ghost use Rattle.valves.specs.Orifices.{
   IsOrifice,
   open_flow as open_of,
@@ -24,8 +26,27 @@ ghost use Rattle.valves.specs.Orifices.{
   line_flow as line_of,
 };
 
-use crate::roots::whole_root;
-use fixed_num::rnd;
+use crate::discharges::Valve;
+use fixed_num::{rnd, root};
+
+/// Whether b*q0^2 is over 2*h0*10^24 at a valve on pipes of this impedance, all together.
+#[tactic(auto, unfolding(case_model::specs::Refusals::is_over))]
+pub(crate) fn is_over(valve: &Valve, b: i64) -> bool
+    requires valve_in { IsValve valve.now.q0 valve.now.h0 }
+    requires impedance { IsWithin (pos 100_000) (pos 20_000_000_000_000) b }
+    ensures { result ≡ is_over_of valve.now.q0 valve.now.h0 b }
+{
+    lost(lost(b as i128, valve.q0), valve.q0) > valve.h0 as i128 * 2_000_000_000_000_000_000_000_000
+}
+
+fn lost(x: i128, q0: i64) -> i128
+    requires x_in { unsigned_abs x ≤ 20_000_000_000_000_000_000_000_000 }
+    requires q0_in { IsWithin (pos 0) (pos 1_000_000_000_000) q0 }
+    ensures value { result ≡ x *ℤ q0 }
+    ensures size { unsigned_abs result ≤ 1_000_000_000_000 * unsigned_abs x }
+{
+    x * q0 as i128
+}
 
 #[tactic(auto, unfolding(crate::specs::Orifices::open_flow))]
 pub(crate) fn open_flow(q0: i64, opening: i64) -> i64
@@ -156,4 +177,14 @@ fn along(e: i64, q: i64) -> i64
     } else {
         0
     }
+}
+
+// The greatest whole number whose square is at most `n`.
+fn whole_root(n: i128) -> i64
+    requires low { pos 0 ≤ℤ n }
+    requires n_in { unsigned_abs n ≤ 10_000_000_000_000_000_000_000_000_000_000_000 }
+    ensures value { result ≡ root_of n }
+    ensures size { unsigned_abs result ≤ 100_000_000_000_000_000 }
+{
+    root(n) as i64
 }

@@ -1,19 +1,16 @@
 -- The sizes of products and quotients of a time step.
-use Rattle.std.proofs.Common.{rules, ◌≡◌, ℕ, ◌+◌, ◌*◌, ◌<◌, ◌≤◌, ℤ, pos, negsuc, ◌*ℤ◌, ◌≤ℤ◌, unsigned_abs, w64, FitsSigned, arith}
+use Rattle.std.proofs.Common.{rules, ℕ, ◌+◌, ◌*◌, ◌≤◌, ℤ, pos, negsuc, ◌*ℤ◌, ◌≤ℤ◌, unsigned_abs, FitsSigned, arith}
 use Rattle.std.specs.Int.{w128}
-use Rattle.std.proofs.lemmas.Int.{ints, unsigned_abs-mul, fits_signed_from_abs, fits_signed_mul}
+use Rattle.std.proofs.lemmas.Int.{ints, unsigned_abs-mul, fits_signed_mul}
 use Rattle.std.proofs.lemmas.Nat.{mul-le}
-
-pub fits : (z : ℤ) → unsigned_abs z ≤ 1000000000000000000 → FitsSigned w64 z
-fits z h = fits_signed_from_abs w64 z (omega arith)
 
 -- a time step times a number
 pub step_below : (dt x : ℤ) (most : ℕ) → pos 1 ≤ℤ dt → dt ≤ℤ pos 1000000 → unsigned_abs x ≤ most → unsigned_abs (dt *ℤ x) ≤ 1000000 * most
 step_below dt x most low high h =
     rw (unsigned_abs-mul dt x) (mul-le (unsigned_abs dt) (unsigned_abs x) 1000000 most (omega (arith, ints)) h)
 
-pub step_fits : (dt x : ℤ) → pos 1 ≤ℤ dt → dt ≤ℤ pos 1000000 → unsigned_abs x ≤ 10000000000000000000000000000000 → FitsSigned w128 (dt *ℤ x)
-step_fits dt x low high h = fits_signed_mul w128 dt x 1000000 10000000000000000000000000000000 (omega (arith, ints)) h (omega arith)
+pub step_fits : (dt x : ℤ) → pos 1 ≤ℤ dt → dt ≤ℤ pos 1000000 → unsigned_abs x ≤ 20000000000000000000000000000000 → FitsSigned w128 (dt *ℤ x)
+step_fits dt x low high h = fits_signed_mul w128 dt x 1000000 20000000000000000000000000000000 (omega (arith, ints)) h (omega arith)
 
 pub step_sign : (dt x : ℤ) → pos 1 ≤ℤ dt → pos 0 ≤ℤ x → pos 0 ≤ℤ (dt *ℤ x)
 step_sign (pos d) (pos n) low h = search rules

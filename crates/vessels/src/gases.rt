@@ -1,3 +1,4 @@
+//! Air vessels.
 ghost use Rattle.std.specs.Prelude.{
   ◌≡◌,
   ◌<◌,
@@ -17,6 +18,7 @@ ghost use Rattle.case_model.specs.declared.cases.TableKind.TheVariants.{Gas};
 ghost use Rattle.case_model.specs.Range.{IsState};
 ghost use Rattle.charline.specs.Characteristics.{IsArrival};
 ghost use Rattle.junctions.specs.Levels.{flows_of};
+ghost use Rattle.junctions.specs.Sums.{most_arrivals};
 ghost use Rattle.vessels.specs.Vessels.{
   vessel_volume as volume_of,
   vessel_with as vessel_of,
@@ -48,7 +50,7 @@ pub fn vessel(
     requires order { IsInOrder Gas gas.now }
     requires own_in { IsState own.now }
     requires some { 0 < length arrivals.now }
-    requires few { length arrivals.now ≤ 8 }
+    requires few { length arrivals.now ≤ most_arrivals }
     requires each { length flows.old ≡ length arrivals.now }
     requires arrivals_in { All IsArrival arrivals.now }
     ensures state { result ≡ vessel_state dt gas.now own.now arrivals.now }
@@ -72,7 +74,7 @@ fn vessel_with(
     requires some_points { 2 ≤ length gas.now }
     requires points_in { All (IsEntry Gas) gas.now }
     requires order { IsInOrder Gas gas.now }
-    requires few { length arrivals.now ≤ 8 }
+    requires few { length arrivals.now ≤ most_arrivals }
     requires each { length flows.old ≡ length arrivals.now }
     requires arrivals_in { All IsArrival arrivals.now }
     ensures state { result ≡ vessel_of gas.now volume arrivals.now }

@@ -8,6 +8,3 @@ mod tanks;
 
 pub use gases::vessel;
 pub use tanks::tank;
-
-#[cfg(test)]
-mod tests;

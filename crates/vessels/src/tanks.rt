@@ -1,3 +1,4 @@
+//! Surge tanks.
 ghost use Rattle.std.specs.Prelude.{
   ◌≡◌,
   ◌<◌,
@@ -16,6 +17,7 @@ ghost use Rattle.case_model.specs.Limits.{IsWithin};
 ghost use Rattle.case_model.specs.Range.{IsState};
 ghost use Rattle.charline.specs.Characteristics.{IsArrival};
 ghost use Rattle.junctions.specs.Levels.{flows_of};
+ghost use Rattle.junctions.specs.Sums.{most_arrivals};
 ghost use Rattle.vessels.specs.Vessels.{storage as storage_of, tank_head as head_of, tank_state, tank_flows};
 
 use case_model::{Arrival, NodeState};
@@ -38,7 +40,7 @@ pub fn tank(
     requires area_in { IsWithin (pos 1) (pos 1_000_000_000) area }
     requires own_in { IsState own.now }
     requires some { 0 < length arrivals.now }
-    requires few { length arrivals.now ≤ 8 }
+    requires few { length arrivals.now ≤ most_arrivals }
     requires each { length flows.old ≡ length arrivals.now }
     requires arrivals_in { All IsArrival arrivals.now }
     ensures state { result ≡ tank_state dt area own.now arrivals.now }
@@ -58,7 +60,7 @@ fn tank_head(dt: i64, area: i64, head: i64, growth: i64, arrivals: &[Arrival]) -
     requires area_in { IsWithin (pos 1) (pos 1_000_000_000) area }
     requires head_in { unsigned_abs head ≤ 100_000_000_000 }
     requires growth_in { unsigned_abs growth ≤ 10_000_000_000_000_000 }
-    requires few { length arrivals.now ≤ 8 }
+    requires few { length arrivals.now ≤ most_arrivals }
     requires arrivals_in { All IsArrival arrivals.now }
     ensures { result ≡ head_of dt area head growth arrivals.now }
 {
@@ -89,18 +91,18 @@ fn kept(storage: i128, head: i64) -> i128
 
 fn driven(growth: i64, heads: i128) -> i128
     requires growth_in { unsigned_abs growth ≤ 10_000_000_000_000_000 }
-    requires heads_in { unsigned_abs heads ≤ 8_000_000_000_000_000_000_000_000_000_000 }
+    requires heads_in { unsigned_abs heads ≤ 16_000_000_000_000_000_000_000_000_000_000 }
     ensures value { result ≡ (growth *ℤ pos 10_000_000_000_000) +ℤ heads }
-    ensures size { unsigned_abs result ≤ 10_000_000_000_000_000_000_000_000_000_000 }
+    ensures size { unsigned_abs result ≤ 20_000_000_000_000_000_000_000_000_000_000 }
 {
     growth as i128 * 10_000_000_000_000 + heads
 }
 
 fn in_step(dt: i64, driven: i128) -> i128
     requires dt_in { IsWithin (pos 1) (pos 1_000_000) dt }
-    requires driven_in { unsigned_abs driven ≤ 10_000_000_000_000_000_000_000_000_000_000 }
+    requires driven_in { unsigned_abs driven ≤ 20_000_000_000_000_000_000_000_000_000_000 }
     ensures value { result ≡ dt *ℤ driven }
-    ensures size { unsigned_abs result ≤ 10_000_000_000_000_000_000_000_000_000_000_000_000 }
+    ensures size { unsigned_abs result ≤ 20_000_000_000_000_000_000_000_000_000_000_000_000 }
 {
     dt as i128 * driven
 }
@@ -108,21 +110,21 @@ fn in_step(dt: i64, driven: i128) -> i128
 fn weight_in_step(dt: i64, weights: i128) -> i128
     requires dt_in { IsWithin (pos 1) (pos 1_000_000) dt }
     requires low { pos 0 ≤ℤ weights }
-    requires high { weights ≤ℤ pos 800_000_000_000_000_000 }
+    requires high { weights ≤ℤ pos 1_600_000_000_000_000_000 }
     ensures value { result ≡ dt *ℤ weights }
     ensures sign { pos 0 ≤ℤ result }
-    ensures size { unsigned_abs result ≤ 1_000_000_000_000_000_000_000_000 }
+    ensures size { unsigned_abs result ≤ 2_000_000_000_000_000_000_000_000 }
 {
     dt as i128 * weights
 }
 
 fn mean(kept: i128, gained: i128, storage: i128, weight: i128) -> i128
     requires kept_in { unsigned_abs kept ≤ 2_000_000_000_000_000_000_000_000_000_000_000_000 }
-    requires gained_in { unsigned_abs gained ≤ 10_000_000_000_000_000_000_000_000_000_000_000_000 }
+    requires gained_in { unsigned_abs gained ≤ 20_000_000_000_000_000_000_000_000_000_000_000_000 }
     requires some { pos 1 ≤ℤ storage }
     requires storage_in { unsigned_abs storage ≤ 20_000_000_000_000_000_000_000_000 }
     requires weights { pos 0 ≤ℤ weight }
-    requires weight_in { unsigned_abs weight ≤ 1_000_000_000_000_000_000_000_000 }
+    requires weight_in { unsigned_abs weight ≤ 2_000_000_000_000_000_000_000_000 }
     ensures { result ≡ rounded (kept +ℤ gained) (storage +ℤ weight) }
 {
     rnd(kept + gained, storage + weight)

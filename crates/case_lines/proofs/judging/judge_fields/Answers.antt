@@ -13,5 +13,5 @@ loop-place-preserved c = record {
       (c.lesser-least.ensures.least (breaks_fields c.args.directive (map (λ f. f.now) c.args.fields.now) (c.loop-place.place - 1))
       (breaks_field (field_kind c.args.directive c.loop-place.place) (field (map (λ f. f.now) c.args.fields.now) c.loop-place.place))
       c.loop-place.invariant.least (search rules));
-  few = c.lesser-least.ensures.few;
+  few = c.lesser-least.ensures.few c.loop-place.invariant.few (search rules);
 }

@@ -8,7 +8,7 @@ use Rattle.case_rules.proofs.counting.judge_counts.Goals as goal
 pub returns-then-is_incomplete-clause-refused : goal.returns-then-is_incomplete-clause-refused
 returns-then-is_incomplete-clause-refused c = λ number line e.
     let lines = lines_of c.args.bytes.now in
-    let i : is_incomplete lines ≡ true = incomplete_is lines ∙ (rw (← c.in-Ok.ensures) (sym c.is_incomplete.ensures)) ∙ c.if-is_incomplete.true in
+    let i : is_incomplete lines ≡ true = incomplete_is lines ∙ (rw (← c.in_ok-tally.ensures) (sym c.is_incomplete.ensures)) ∙ c.if-is_incomplete.true in
     let l : 0 ≡ line = cc in
     let n : 8 ≡ number = cc in
     subst (λ (x : ℕ). IsLeast (count_rules lines) line x) n (subst (λ (x : ℕ). IsLeast (count_rules lines) x 8) l (incomplete_least lines i))
@@ -16,8 +16,8 @@ returns-then-is_incomplete-clause-refused c = λ number line e.
 pub returns-then-is_too_large-clause-refused : goal.returns-then-is_too_large-clause-refused
 returns-then-is_too_large-clause-refused c = λ number line e.
     let lines = lines_of c.args.bytes.now in
-    let i : is_incomplete lines ≡ false = incomplete_is lines ∙ (rw (← c.in-Ok.ensures) (sym c.is_incomplete.ensures)) ∙ c.if-is_incomplete.false in
-    let t : is_too_large lines ≡ true = too_large_is lines ∙ (rw (← c.in-Ok.ensures) (sym c.is_too_large.ensures)) ∙ c.if-is_too_large.true in
+    let i : is_incomplete lines ≡ false = incomplete_is lines ∙ (rw (← c.in_ok-tally.ensures) (sym c.is_incomplete.ensures)) ∙ c.if-is_incomplete.false in
+    let t : is_too_large lines ≡ true = too_large_is lines ∙ (rw (← c.in_ok-tally.ensures) (sym c.is_too_large.ensures)) ∙ c.if-is_too_large.true in
     let l : 0 ≡ line = cc in
     let n : 10 ≡ number = cc in
     subst (λ (x : ℕ). IsLeast (count_rules lines) line x) n (subst (λ (x : ℕ). IsLeast (count_rules lines) x 10) l (too_large_least lines i t))
@@ -25,6 +25,6 @@ returns-then-is_too_large-clause-refused c = λ number line e.
 pub returns-clause-kept : goal.returns-clause-kept
 returns-clause-kept c =
     let lines = lines_of c.args.bytes.now in
-    let i : is_incomplete lines ≡ false = incomplete_is lines ∙ (rw (← c.in-Ok.ensures) (sym c.is_incomplete.ensures)) ∙ c.if-is_incomplete.false in
-    let t : is_too_large lines ≡ false = too_large_is lines ∙ (rw (← c.in-Ok.ensures) (sym c.is_too_large.ensures)) ∙ c.if-is_too_large.false in
+    let i : is_incomplete lines ≡ false = incomplete_is lines ∙ (rw (← c.in_ok-tally.ensures) (sym c.is_incomplete.ensures)) ∙ c.if-is_incomplete.false in
+    let t : is_too_large lines ≡ false = too_large_is lines ∙ (rw (← c.in_ok-tally.ensures) (sym c.is_too_large.ensures)) ∙ c.if-is_too_large.false in
     counts_kept lines i t

@@ -1,5 +1,4 @@
 use Rattle.std.proofs.Common.{arith, to_z-of_z}
-use Rattle.charline.proofs.Sizes.{fits_wide}
 use Rattle.charline.proofs.cavities.weighted.Goals as goal
 
 pub returns-clause-value : goal.returns-clause-value

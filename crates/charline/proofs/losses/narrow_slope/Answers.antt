@@ -1,6 +1,4 @@
-use Rattle.std.proofs.Common.{arith, to_z-of_z}
-use Rattle.std.proofs.Common.{ℕ, ap, ◌∙◌}
-use Rattle.fixed_num.specs.Rounding.{half_up}
+use Rattle.std.proofs.Common.{arith}
 use Rattle.charline.proofs.Sizes.{millions_and_rest}
 use Rattle.charline.proofs.losses.narrow_slope.Goals as goal
 

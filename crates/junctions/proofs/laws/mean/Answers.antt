@@ -1,5 +1,6 @@
 use Rattle.std.proofs.Common.{arith, to_z-of_z}
-use Rattle.junctions.proofs.Quotients.{fits, mean_size}
+use Rattle.charline.proofs.Sizes.{fits}
+use Rattle.junctions.proofs.Quotients.{mean_size}
 use Rattle.junctions.proofs.laws.mean.Goals as goal
 
 pub overflow_cast-result : goal.overflow_cast-result

@@ -1,5 +1,5 @@
 use Rattle.std.proofs.Common.{arith, to_z-of_z}
-use Rattle.junctions.proofs.Quotients.{weighted_below}
+use Rattle.charline.proofs.Sizes.{weighted_below}
 use Rattle.junctions.proofs.sums.weighted.Goals as goal
 
 pub returns-clause-size : goal.returns-clause-size

@@ -1,7 +1,8 @@
 use Rattle.std.proofs.Common.{arith, to_z-of_z, FitsSigned, w64, ◌+ℤ◌}
 use Rattle.std.proofs.lemmas.Int.{ints}
 use Rattle.valves.specs.Devices.{inline_through}
-use Rattle.valves.proofs.Quotients.{fits}
+use Rattle.valves.specs.Orifices.{IsOrifice}
+use Rattle.charline.proofs.Sizes.{fits}
 use Rattle.valves.proofs.devices.inline.Goals as goal
 
 pub valve_flow-flow-requires-clause-valve_in : goal.valve_flow-flow-requires-clause-valve_in
@@ -11,7 +12,12 @@ valve_flow-flow-requires-clause-valve_in c =
     let f : FitsSigned w64 (c.args.one.now.b +ℤ c.args.two.now.b) = fits (c.args.one.now.b +ℤ c.args.two.now.b) (omega (arith, ints)) in
     let g : FitsSigned w64 c.args.one.now.b = fits c.args.one.now.b (omega (arith, ints)) in
     let h : FitsSigned w64 c.args.two.now.b = fits c.args.two.now.b (omega (arith, ints)) in
-    simp to_z-of_z c.requires.valve_in
+    let o : IsOrifice (c.args.one.now.b +ℤ c.args.two.now.b) c.args.valve.now.q0 c.args.valve.now.h0 = record {
+      impedance = record { low = omega (arith, ints); high = omega (arith, ints) };
+      valve = c.requires.valve_in;
+      product = grind (arith, to_z-of_z);
+    } in
+    simp to_z-of_z o
 
 pub returns : goal.returns
 unfolding inline_through

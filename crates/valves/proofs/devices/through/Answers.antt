@@ -1,6 +1,6 @@
 use Rattle.std.proofs.Common.{arith, to_z-of_z, FitsSigned, w64}
 use Rattle.std.proofs.lemmas.Int.{ints}
-use Rattle.valves.proofs.Quotients.{fits}
+use Rattle.charline.proofs.Sizes.{fits}
 use Rattle.valves.proofs.devices.through.Goals as goal
 
 pub returns : goal.returns

@@ -1,5 +1,6 @@
 use Rattle.std.proofs.Common.{arith, to_z-of_z}
-use Rattle.valves.proofs.Quotients.{fits, half_fits, half_below}
+use Rattle.charline.proofs.Sizes.{fits}
+use Rattle.valves.proofs.Quotients.{half_fits, half_below}
 use Rattle.valves.proofs.orifices.half_of_square.Goals as goal
 
 pub overflow_cast-result : goal.overflow_cast-result

@@ -3,7 +3,8 @@ use Rattle.std.proofs.lemmas.Int.{ints}
 use Rattle.case_model.specs.Limits.{IsWithin}
 use Rattle.fixed_num.specs.Rounding.{rnd}
 use Rattle.valves.specs.Orifices.{open_flow}
-use Rattle.valves.proofs.Quotients.{fits, open_fits, open_below, open_within}
+use Rattle.charline.proofs.Sizes.{fits}
+use Rattle.valves.proofs.Quotients.{open_fits, open_below, open_within}
 use Rattle.valves.proofs.orifices.open_flow.Goals as goal
 
 pub overflow_cast-result : goal.overflow_cast-result

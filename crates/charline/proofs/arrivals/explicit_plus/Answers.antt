@@ -1,0 +1,8 @@
+use Rattle.std.proofs.Common.{arith, to_z-of_z}
+use Rattle.charline.specs.Characteristics.{arrive_plus}
+use Rattle.charline.proofs.arrivals.explicit_plus.Goals as goal
+
+pub returns-in-Good-clause-value : goal.returns-in-Good-clause-value
+unfolding arrive_plus
+returns-in-Good-clause-value c =
+    grind (arith, to_z-of_z, c.in_reach.ensures.value c.args.b c.requires.impedance)

@@ -1,6 +1,0 @@
-use Rattle.envelope.specs.CellLaws.{within-first}
-use Rattle.envelope.specs.Folds.{spans_of}
-use Rattle.report.proofs.report_tests.note.Goals as goal
-
-pub note-requires : goal.note-requires
-note-requires c = within-first (spans_of c.args.fold.now) 5 c.args.place c.requires.spans c.requires.place
