@@ -7,3 +7,4 @@ pub mod Ordered
 pub mod PeakLaws
 pub mod Agreeing
 pub mod Sections
+pub mod Meshed
