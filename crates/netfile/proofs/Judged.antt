@@ -9,7 +9,8 @@ use Rattle.case_model.specs.Mesh.{IsMesh, IsNumbered}
 use Rattle.case_model.specs.Refusals.{passes}
 use Rattle.case_model.specs.Sets.{IsEmpty, AreEmpty, IsFirst}
 use Rattle.case_model.specs.Search.{Refusal}
-use Rattle.case_model.specs.SearchLaws.{FirstOrNone, first_is, first_found, first_none}
+use Rattle.case_model.specs.Bounds.{FirstOrNone}
+use Rattle.case_model.proofs.SearchLaws.{first_is, first_found, first_none}
 use Rattle.case_model.specs.declared.fault.CaseFault.{CaseFault}
 use Rattle.case_model.specs.declared.fault.CaseFault.TheVariants.{Refused, Memory}
 use Rattle.case_rules.specs.Said.{lines_of}

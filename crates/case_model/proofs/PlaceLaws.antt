@@ -12,7 +12,7 @@ use Rattle.case_model.specs.declared.states.NodeState.TheVariants.{Bad as BadSta
 use Rattle.case_model.specs.Meaning.{Meaning}
 use Rattle.case_model.specs.Mesh.{no_pipe, reaches, base_of, places_before, IsNumbered}
 use Rattle.case_model.specs.Places.{is_bad, is_bad_state, bad_places}
-use Rattle.case_model.specs.RowLaws.{length-points, length-states, point-at, state-at}
+use Rattle.case_model.proofs.RowLaws.{length-points, length-states, point-at, state-at}
 use Rattle.case_model.specs.Rows.{row, points, states}
 
 -- which places of pipe p are Bad

@@ -3,25 +3,8 @@
 use Rattle.std.proofs.Common.{ℕ, zero, suc, ◌+◌, ◌<◌, ◌≤◌, ◌≡◌, ◌⊎◌, inl, inr, true, false, Bool, cond, IsTrue, List, [], ◌∷◌, Option, Some, None, ap, subst, sym, ◌∙◌, refl, arith}
 use Rattle.std.specs.List.{find, range_with_len}
 use Rattle.case_model.specs.Sets.{Rules, IsEmpty, IsLeast, AreEmpty, IsFirst}
+use Rattle.case_model.specs.Bounds.{IsOneOf, IsRising, IsBounded, AreBounded, LeastOrNone, FirstOrNone}
 use Rattle.case_model.specs.Search.{Refusal, found_on, least_of, or_found, first_of}
-
--- one of these numbers
-abbrev pub IsOneOf : List ℕ → ℕ → Type 0
-IsOneOf [] n = ⊥
-IsOneOf (m ∷ numbers) n = (n ≡ m) ⊎ IsOneOf numbers n
-
--- numbers in rising order
-abbrev pub IsRising : List ℕ → Type 0
-IsRising [] = Unit {0}
-IsRising (m ∷ numbers) = ((n : ℕ) → IsOneOf numbers n → m ≤ n) × IsRising numbers
-
--- a set holds no pair beyond so many lines and these numbers
-abbrev pub IsBounded : List ℕ → ℕ → Rules → Type 0
-IsBounded numbers count rules = (line number : ℕ) → IsTrue (rules line number) → (line < count) × IsOneOf numbers number
-
-abbrev pub AreBounded : List ℕ → ℕ → List Rules → Type 0
-AreBounded numbers count [] = Unit {0}
-AreBounded numbers count (pass ∷ passes) = IsBounded numbers count pass × AreBounded numbers count passes
 
 -- the least of these numbers that is broken
 record IsFound (numbers : List ℕ) (p : ℕ → Bool) (r : ℕ) : Type 0 where
@@ -101,11 +84,6 @@ first numbers rules from zero s = λ l n a b k h. absurd (omega arith)
 first numbers rules from (suc count) s =
     first_on numbers rules from count (find (rules from) numbers) (least_of rules numbers (range_with_len (from + 1) count)) (found numbers (rules from) s) (first numbers rules (from + 1) count s)
 
--- what a search says of a set: none is broken, or the least pair
-abbrev pub LeastOrNone : Rules → Option Refusal → Type 0
-LeastOrNone rules None = IsEmpty rules
-LeastOrNone rules (Some r) = IsLeast rules r.line r.number
-
 of_first : (numbers : List ℕ) (rules : Rules) (count : ℕ) (o : Option Refusal) → IsBounded numbers count rules → FindsFirst numbers rules 0 count o → LeastOrNone rules o
 of_first numbers rules count None w f = λ l n h. f l n (omega arith) (omega (arith, (w l n h).0)) (w l n h).1 h
 of_first numbers rules count (Some r) w f = record {
@@ -133,11 +111,6 @@ of_least rules (Some r) line number h f =
 of_empty : (rules : Rules) (o : Option Refusal) → LeastOrNone rules o → IsEmpty rules → o ≡ None
 of_empty rules None h e = refl
 of_empty rules (Some r) h e = absurd (e r.line r.number h.broken)
-
--- what a search says of passes
-abbrev pub FirstOrNone : List Rules → Option Refusal → Type 0
-FirstOrNone passes None = AreEmpty passes
-FirstOrNone passes (Some r) = IsFirst passes r.line r.number
 
 of_passes : (pass : Rules) (passes : List Rules) (here later : Option Refusal) → LeastOrNone pass here → FirstOrNone passes later → FirstOrNone (pass ∷ passes) (or_found here later)
 of_passes pass passes (Some r) later h f = inl h
