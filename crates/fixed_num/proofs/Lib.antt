@@ -6,3 +6,4 @@ pub mod Texts
 pub mod Back
 pub mod RootLaws
 pub mod Widths
+pub mod Spellings
