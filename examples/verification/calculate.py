@@ -460,6 +460,9 @@ def surge_tank_friction():
     case.expect("envelope T MIN", "first downsurge, m", "H0 - z2: (1 - m z2) e^(m z2) = (1 + m z) e^(-m z)",
                 start + down_level / rate, tolerance, amount)
     case.expect("watch T 0 HEAD", "level in steady flow, m", "H0 - h_f", start - loss, 0.000001, "rounding")
+    case.expect("watch T 1 HEAD", "level after one step, m", "H0 - h_f + Q dt/At",
+                start - loss + flow * case.step / area,
+                0.0001, "the flow falls a little within the step")
     second = solve(lambda x: (1 - x) * math.exp(x) - (1 - down_level) * math.exp(down_level), 1e-9, 1 - 1e-12)
     last = int(case.fields("steps")[1])
     case.expect(f"greatest watch T HEAD {case.at(480.0)} {last}", "second upsurge, m",
@@ -523,6 +526,9 @@ def vessel_large():
             gas = constant / (EXPONENT - 1) * (volume ** (1 - EXPONENT) - other ** (1 - EXPONENT))
             return outside * (other - volume) - gas - kinetic
 
+        case.expect("watch VE 1 VOLUME", "volume after one step, m3", "V0 + Q dt", volume + pipe.flow * case.step,
+                    1e-8,
+                    "rounding")
         rate = math.sqrt(GRAVITY * pipe.area * EXPONENT * outside / (pipe.length * volume))
         elastic = (rate * pipe.travel) ** 2 / 6
         late = math.pi * rate * case.step / 8  # growth of the amplitude in a quarter of a period
@@ -674,6 +680,11 @@ def column_separation():
         case.expect(line, "the cavity collapses, by the steps of the flow, s", "t0 + 2L/a + time of volume 0",
                     collapse,
                     case.step, "one time step")
+        if weight == 1:
+            # each step counts whole: the collapse is seen where its time is used up, counted from one step before
+            step = case.at(opened) - 1 + math.ceil((collapse - opened) / case.step)
+            case.expect(f"watch V {step} HEAD", "head at the step of the collapse, m", "z + hv - b g",
+                        vapour - pipe.impedance * growth, 2 * tolerance, ROUNDING)
         peak_line = f"greatest watch V HEAD {case.at(opened)} {case.at(math.floor(collapse) + 1.0) - 1}"
         case.expect(peak_line, "head at the collapse, rigid column, m", "z + hv + a V/g", vapour + pipe.joukowsky,
                     pull,
@@ -739,19 +750,22 @@ def cavity_at_valve():
     case.expect(f"watch V {case.at(opened)} HEAD", "head as the cavity opens, m", "hv", vapour, 1e-6, "none")
     case.expect(f"watch V {case.at(opened)} GROWTH", "growth of the cavity, m3/s",
                 "(hv - (H0 - 2 F))/b - n q0 sqrt((Ho - hv)/h0)", growth, 1e-6, reason)
-    case.expect(f"probe P {last} {case.at(opened)} QU", "flow in the main at the valve, m3/s", "-(hv - (H0 - 2 F))/b", -away,
+    case.expect(f"probe P {last} {case.at(opened)} QU", "flow in the main at the valve, m3/s",
+                "-(hv - (H0 - 2 F))/b", -away,
                 1e-6, reason)
     case.expect("cavity V VOLUME", "greatest volume, m3", "g 2L/a", growth * 2 * pipe.travel, 2e-6, reason)
     arrival = high - 2 * (high - low) + 2 * (low - vapour)
     shrink = (arrival - vapour) / pipe.impedance - inflow
     case.expect(f"time watch V HEAD above {vapour + 0.1:.1f} from {case.at(opened)}", "the cavity closes, s",
-                "t1 + 2L/a + g (2L/a)/((c - hv)/b + n q0 sqrt((Ho - hv)/h0))", back + growth * 2 * pipe.travel / shrink, case.step,
+                "t1 + 2L/a + g (2L/a)/((c - hv)/b + n q0 sqrt((Ho - hv)/h0))",
+                back + growth * 2 * pipe.travel / shrink, case.step,
                 "one time step")
     # behind it the valve lets water flow back: (q/(n q0))^2 h0 = Ho - c - b q
     half = pipe.impedance * area / 2
     reverse = -half + math.sqrt(half ** 2 + area * (outlet - arrival))
     case.expect(f"watch V {case.at(back + 1.8 * pipe.travel)} HEAD", "head after it closes, m",
-                "c + b q, h0 (q/(n q0))^2 + b q = Ho - c", arrival + pipe.impedance * reverse, pipe.rounding(outlet), ROUNDING)
+                "c + b q, h0 (q/(n q0))^2 + b q = Ho - c", arrival + pipe.impedance * reverse,
+                pipe.rounding(outlet), ROUNDING)
 
 
 def inline_valve_steady():
@@ -865,6 +879,10 @@ def crest_cavity():
                     "t1 + 2 L2/a + g (2 L2/a)/(2 (H0 - z - hv)/b - g)", opened + period + growth * period / shrink,
                     case.step,
                     "one time step")
+        closed = period + growth * period / shrink
+        step = case.at(opened) - 1 + math.ceil(closed / case.step)  # each step counts whole, from one step before
+        case.expect(f"watch CREST {step} HEAD", "head at the step of the end, m", "H0 - (z + hv - (H0 - b Q))",
+                    start - lack, 2 * tolerance, ROUNDING)
         case.expect(f"greatest watch CREST HEAD {case.at(opened)} {case.at(6.0)}", "head as it closes, m",
                     "H0 - (z + hv - (H0 - b Q))",
                     start - lack, 2 * tolerance, ROUNDING)

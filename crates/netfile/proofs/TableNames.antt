@@ -1,6 +1,6 @@
 -- A reference names a table of the kind that is wanted.
 use Rattle.std.proofs.Common.{◌≡◌, ◌<◌, ◌≤◌, ℕ, suc, ◌+◌, ◌*◌, ◌%◌, ◌==◌, ◌&&◌, nat_lt, nat_le, Bool, true, false, cond, List, [], ◌∷◌, length, take, Option, Some, None, refl, sym, ap, ◌∙◌, subst, eq-eqb, arith}
-use Rattle.std.proofs.lemmas.Bool.{and_parts, or_left}
+use Rattle.std.proofs.lemmas.Bool.{and_parts, or_left, and_from}
 use Rattle.std.proofs.lemmas.List.{get_or-take, length-take-le}
 use Rattle.std.proofs.lemmas.List.Folds.{list_any_at}
 use Rattle.std.proofs.lemmas.List.Elements.{All-from_recursion}
@@ -124,10 +124,6 @@ before_no : (lines : List (List (List ℕ))) (name : List ℕ) (j k : ℕ) → j
 before_no lines name j k l h e d =
     false_true (list_any (defines name) (take k lines)) e (list_any_at (defines name) (take k lines) j [] (omega (arith, length-take-le k lines (omega arith))) (rw (get_or-take k lines j [] l) d))
 
-and_both : (a b : Bool) → a ≡ true → b ≡ true → (a && b) ≡ true
-and_both true b h k = k
-and_both false b h k = h
-
 some_numbered : (number : ℕ) (o : Option Part) → has_number number o ≡ true → is_some_part o ≡ true
 some_numbered number None h = h
 some_numbered number (Some part) h = refl
@@ -137,8 +133,8 @@ pub defines_of : (number : ℕ) (name : List ℕ) (fields : List (List ℕ)) →
 unfolding defines is_definition defines_numbered
 defines_of number name fields h =
     let n = (and_parts (has_number number (named_by (said fields)) && nat_lt 1 (length fields)) (bytes_eq (field fields 1) name) h).0 in
-    and_both (is_some_part (named_by (said fields)) && nat_lt 1 (length fields)) (bytes_eq (field fields 1) name)
-    (and_both (is_some_part (named_by (said fields))) (nat_lt 1 (length fields)) (some_numbered number (named_by (said fields)) (and_parts (has_number number (named_by (said fields))) (nat_lt 1 (length fields)) n).0) (and_parts (has_number number (named_by (said fields))) (nat_lt 1 (length fields)) n).1)
+    and_from (is_some_part (named_by (said fields)) && nat_lt 1 (length fields)) (bytes_eq (field fields 1) name)
+    (and_from (is_some_part (named_by (said fields))) (nat_lt 1 (length fields)) (some_numbered number (named_by (said fields)) (and_parts (has_number number (named_by (said fields))) (nat_lt 1 (length fields)) n).0) (and_parts (has_number number (named_by (said fields))) (nat_lt 1 (length fields)) n).1)
     (and_parts (has_number number (named_by (said fields)) && nat_lt 1 (length fields)) (bytes_eq (field fields 1) name) h).1
 
 some_directive : (o : Option Directive) → is_some_part (named_by o) ≡ true → (d : Directive) × (o ≡ Some d)
@@ -182,8 +178,8 @@ by_table P (Some OfWatch) at fields f = tt
 defines_own : (name : List ℕ) (own : TableKind) (fields : List (List ℕ)) → nat_lt 1 (length fields) ≡ true → bytes_eq (field fields 1) name ≡ true → defines_by (part_number (ATable own)) name fields (Some (OfTable own)) ≡ true
 unfolding defines_by
 defines_own name own fields n b =
-    and_both ((part_number (ATable own) == part_number (ATable own)) && nat_lt 1 (length fields)) (bytes_eq (field fields 1) name)
-    (and_both (part_number (ATable own) == part_number (ATable own)) (nat_lt 1 (length fields)) (eq-eqb (part_number (ATable own)) (part_number (ATable own)) refl) n) b
+    and_from ((part_number (ATable own) == part_number (ATable own)) && nat_lt 1 (length fields)) (bytes_eq (field fields 1) name)
+    (and_from (part_number (ATable own) == part_number (ATable own)) (nat_lt 1 (length fields)) (eq-eqb (part_number (ATable own)) (part_number (ATable own)) refl) n) b
 
 table_defines : (name : List ℕ) (own : TableKind) (fields : List (List ℕ)) → said fields ≡ Some (OfTable own) → nat_lt 1 (length fields) ≡ true → bytes_eq (field fields 1) name ≡ true → defines_numbered (part_number (ATable own)) name fields ≡ true
 table_defines name own fields s n b =

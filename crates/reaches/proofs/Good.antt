@@ -20,7 +20,8 @@ use Rattle.case_model.specs.Ends.{end_if, ends_at}
 use Rattle.case_model.specs.Division.{divides, place_base, reaches_at, node_ends, AreEnds, pipe_mesh, mesh_of}
 use Rattle.case_model.specs.Refusals.{part_rules}
 use Rattle.reaches.proofs.Divided.{divided}
-use Rattle.reaches.proofs.Whole.{all_divided, or_right}
+use Rattle.std.proofs.lemmas.Bool.{or_right}
+use Rattle.case_model.proofs.Keeping.{all_divided}
 
 -- the ends of a node are those of pipes
 if_all : (P : End → Type 0) (b : Bool) (index : ℕ) (last : Bool) (xs : List End) → P (record { pipe = index; at_last = last }) → AllByRecursion P xs → AllByRecursion P (cons_option (end_if b index last) xs)

@@ -6,7 +6,7 @@ use Rattle.case_model.specs.Division.{mesh_of}
 use Rattle.case_model.specs.Refusals.{passes}
 use Rattle.case_model.specs.Sets.{IsEmpty, AreEmpty}
 use Rattle.case_model.specs.Search.{Refusal}
-use Rattle.case_model.specs.SearchLaws.{FirstOrNone}
+use Rattle.case_model.specs.Bounds.{FirstOrNone}
 use Rattle.case_rules.specs.Said.{lines_of}
 use Rattle.case_rules.specs.Among.{line_rules}
 use Rattle.case_rules.specs.Counts.{count_rules}
@@ -64,9 +64,13 @@ accepted_writable bytes case mesh h =
     let a = accepts_text bytes (case, mesh) h in
     subst IsWritable a.said (lines_writable (lines_of bytes) a.empty.0 a.empty.1.0 a.empty.1.1)
 
+pub accepted_mesh : (bytes : List ℕ) (case : Case) (mesh : Mesh) → verdict bytes ≡ Ok (case, mesh) → mesh_of case ≡ mesh
+accepted_mesh bytes case mesh h =
+    let a = accepts_text bytes (case, mesh) h in
+    sym (ap mesh_of a.said) ∙ a.divided
+
 -- its written text means that case again, with its parts on the lines of that text, and the same mesh
 pub accepted_reads_back : (bytes : List ℕ) (case : Case) (mesh : Mesh) → verdict bytes ≡ Ok (case, mesh) → length (case_text case) ≤ 8_388_608 → verdict (case_text case) ≡ Ok (renumbered case, mesh)
 accepted_reads_back bytes case mesh h l =
-    let a = accepts_text bytes (case, mesh) h in
-    let same : mesh_of case ≡ mesh = sym (ap mesh_of a.said) ∙ a.divided in
+    let same = accepted_mesh bytes case mesh h in
     subst (λ (m : Mesh). verdict (case_text case) ≡ Ok (renumbered case, m)) same (mesh_reads_back case (accepted_writable bytes case mesh h) l)

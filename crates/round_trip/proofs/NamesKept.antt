@@ -1,5 +1,6 @@
 -- Of lines that break no rule the names of the parts are spelt and short, and no two of them are equal.
 use Rattle.std.proofs.Common.{ℕ, ◌+◌, ◌*◌, ◌%◌, ◌<◌, ◌≤◌, ◌≡◌, ◌==◌, not, nat_lt, nat_le, Bool, true, false, IsTrue, List, [], ◌++◌, length, take, map, Option, Some, None, refl, sym, ap, ◌∙◌, subst, arith}
+use Rattle.std.proofs.lemmas.Bool.{and_parts, or_parts, not-false}
 use Rattle.std.proofs.lemmas.List.{get_or-take, length-take-le}
 use Rattle.std.proofs.lemmas.List.Folds.{list_any_at}
 use Rattle.std.proofs.lemmas.List.Elements.{All-append}
@@ -20,7 +21,7 @@ use Rattle.case_rules.specs.Said.{line_at, said, named_by, is_some_part, is_defi
 use Rattle.case_rules.specs.Among.{line_rules}
 use Rattle.case_rules.specs.Counts.{is_table, is_node, is_pipe}
 use Rattle.netfile.specs.Built.{case_of, tables_of, nodes_of, pipes_of}
-use Rattle.netfile.proofs.FieldLimits.{IsKept, kept_at, and_left, and_right, not_not, or_left}
+use Rattle.netfile.proofs.FieldLimits.{IsKept, kept_at}
 use Rattle.netfile.proofs.NamesOnce.{name_once}
 use Rattle.round_trip.specs.Writable.{IsNameText, AreApart, case_names}
 use Rattle.round_trip.proofs.Apart.{AreNew, apart_append, new_of_both}
@@ -109,7 +110,7 @@ new_name OfWatch h = absurd (cc)
 two_fields : (d : Directive) (n : ℕ) → is_some_part (named_by (Some d)) ≡ true → has_count d n ≡ true → 1 < n
 unfolding has_count
 two_fields (OfSingle single) n h k = absurd (cc)
-two_fields (OfTable kind) n h k = let m = and_right (n % 2 == 0) (nat_le (2 * least_entries kind + 2) n) k in grind (arith, nat_tests)
+two_fields (OfTable kind) n h k = let m = (and_parts (n % 2 == 0) (nat_le (2 * least_entries kind + 2) n) k).1 in grind (arith, nat_tests)
 two_fields (OfNode node) n h k = grind (arith, nat_tests)
 two_fields OfPipe n h k = grind (arith, nat_tests)
 two_fields OfProbe n h k = absurd (cc)
@@ -117,7 +118,7 @@ two_fields OfWatch n h k = absurd (cc)
 
 spelt_name : (text : List ℕ) → breaks_field NewName text 4 ≡ false → IsTrue (is_name text)
 unfolding breaks_field breaks_name
-spelt_name text h = not_not (is_name text) (or_left (not (is_name text)) false h)
+spelt_name text h = not-false (is_name text) (or_parts (not (is_name text)) false h).0
 
 short_name : (text : List ℕ) → breaks_field NewName text 10 ≡ false → length text ≤ 32
 unfolding breaks_field breaks_name
@@ -159,15 +160,15 @@ before_no lines name j k l h e d =
 
 definition_of : (name : List ℕ) (fields : List (List ℕ)) → defines name fields ≡ true → is_definition fields ≡ true
 unfolding defines
-definition_of name fields h = and_left (is_definition fields) (bytes_eq (field fields 1) name) h
+definition_of name fields h = (and_parts (is_definition fields) (bytes_eq (field fields 1) name) h).0
 
 name_of : (name : List ℕ) (fields : List (List ℕ)) → defines name fields ≡ true → field fields 1 ≡ name
 unfolding defines
-name_of name fields h = (bytes_eq-Decides (field fields 1) name).0 (and_right (is_definition fields) (bytes_eq (field fields 1) name) h)
+name_of name fields h = (bytes_eq-Decides (field fields 1) name).0 (and_parts (is_definition fields) (bytes_eq (field fields 1) name) h).1
 
 definer : (fields : List (List ℕ)) → is_definition fields ≡ true → (d : Directive) × (said fields ≡ Some d)
 unfolding is_definition
-definer fields h = some_directive (said fields) (and_left (is_some_part (named_by (said fields))) (nat_lt 1 (length fields)) h)
+definer fields h = some_directive (said fields) (and_parts (is_some_part (named_by (said fields))) (nat_lt 1 (length fields)) h).0
 
 name_free : (lines : List (List (List ℕ))) → IsEmpty (line_rules lines) → (name : List ℕ) (k : ℕ) → k < length lines → defines name (line_at lines k) ≡ true → list_any (defines name) (take k lines) ≡ false
 name_free lines empty name k h d =

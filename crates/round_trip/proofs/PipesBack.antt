@@ -8,7 +8,7 @@ use Rattle.case_model.specs.declared.cases.Probe.{Probe}
 use Rattle.case_model.specs.declared.cases.ProbeAt.{ProbeAt}
 use Rattle.case_model.specs.declared.cases.ProbeAt.TheVariants.{OnPipe, OnNode}
 use Rattle.case_model.specs.Limits.{IsPipe, IsJoined, IsSpot}
-use Rattle.case_lines.specs.declared.quantities.Quantity.TheVariants.{Length, Diameter, WaveSpeed, Friction, Flow, PipePlace}
+use Rattle.case_lines.specs.declared.quantities.Quantity.TheVariants.{Length, Diameter, WaveSpeed, FrictionFactor, Flow, PipePlace}
 use Rattle.case_lines.specs.Quantities.{amount}
 use Rattle.case_writing.specs.CaseText.{name_of_node, name_of_pipe, count_text, spot_fields}
 use Rattle.netfile.specs.Built.{node_index, pipe_index, pipe_of, pipe_said, pipes_from, probe_by, probe_said, probes_from}
@@ -53,7 +53,7 @@ pipe_small p h = record {
 pipe_fields_back : (read nodes : List Node) (p : Pipe) → AreNodesFound read nodes → IsPipeSmall p → IsJoined (length nodes) p → (line : ℕ) → pipe_of read line (pipe_line nodes p) ≡ pipe_on line p
 unfolding pipe_of pipe_line
 pipe_fields_back read nodes p f h j line =
-    rw (f.index p.first j.first, f.index p.last j.last, amount_back Length p.length h.length, amount_back Diameter p.diameter h.diameter, amount_back WaveSpeed p.speed h.speed, amount_back Friction p.friction h.friction, amount_back Flow p.flow h.flow) refl
+    rw (f.index p.first j.first, f.index p.last j.last, amount_back Length p.length h.length, amount_back Diameter p.diameter h.diameter, amount_back WaveSpeed p.speed h.speed, amount_back FrictionFactor p.friction h.friction, amount_back Flow p.flow h.flow) refl
 
 pipe_back : (read nodes : List Node) (p : Pipe) → AreNodesFound read nodes → IsPipeSmall p → IsJoined (length nodes) p → (line : ℕ) → pipe_said read line (pipe_line nodes p) ≡ Some (pipe_on line p)
 unfolding pipe_said

@@ -15,7 +15,7 @@ use Rattle.case_model.specs.declared.states.NodeState.{NodeState}
 use Rattle.case_model.specs.declared.states.NodeState.TheVariants.{Bad as BadState}
 use Rattle.case_model.specs.Meaning.{Meaning}
 use Rattle.case_model.specs.Mesh.{no_pipe, reaches, base_of, places_before, IsNumbered}
-use Rattle.case_model.specs.RowLaws.{length-states, state-at, pipe-at, point-at, length-points}
+use Rattle.case_model.proofs.RowLaws.{length-states, state-at, pipe-at, point-at, length-points}
 use Rattle.case_model.specs.Rows.{row, points, states, all_points}
 use Rattle.envelope.specs.Cells.{is_within}
 use Rattle.envelope.specs.CellLaws.{below-first}

@@ -1,5 +1,6 @@
 use Rattle.std.proofs.Common.{arith, to_z-of_z}
-use Rattle.pumps.proofs.Scales.{fits, lost_fits, lost_below}
+use Rattle.charline.proofs.Sizes.{fits}
+use Rattle.pumps.proofs.Scales.{lost_fits, lost_below}
 use Rattle.pumps.proofs.curves.lost.Goals as goal
 
 pub overflow_cast-result : goal.overflow_cast-result

@@ -1,4 +1,4 @@
-use Rattle.std.proofs.Common.{arith, to_z-of_z, ◌≤◌, unsigned_abs}
+use Rattle.std.proofs.Common.{arith, to_z-of_z}
 use Rattle.charline.proofs.Sizes.{fits}
 use Rattle.vessels.proofs.Sizes.{step_fits, gained_below}
 use Rattle.vessels.proofs.gases.gained.Goals as goal
