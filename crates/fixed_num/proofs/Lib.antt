@@ -5,3 +5,4 @@ pub mod Between
 pub mod Texts
 pub mod Back
 pub mod RootLaws
+pub mod Spellings
