@@ -3,4 +3,6 @@
 #![tactic(auto)]
 
 #[cfg(test)]
+mod hydraulics_rows;
+#[cfg(test)]
 mod number_rows;
