@@ -8,3 +8,4 @@ pub mod Ordered
 pub mod PeakLaws
 pub mod Agreeing
 pub mod Sections
+pub mod Meshed
