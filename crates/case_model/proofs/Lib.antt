@@ -6,3 +6,4 @@ pub mod FaultLaws
 pub mod WordLaws
 pub mod SearchLaws
 pub mod ListFacts
+pub mod Running

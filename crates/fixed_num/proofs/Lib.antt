@@ -7,3 +7,5 @@ pub mod Back
 pub mod RootLaws
 pub mod Widths
 pub mod Spellings
+pub mod Orders
+pub mod Fits

@@ -1,7 +1,6 @@
 pub mod Divided
 pub mod EndPoints
 pub mod Gathered
-pub mod Running
 pub mod Shares
 pub mod Starting
 pub mod Suiting
