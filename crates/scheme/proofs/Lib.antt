@@ -1,6 +1,7 @@
 pub mod Caused
 pub mod Divided
 pub mod EndPoints
+pub mod Following
 pub mod Gathered
 pub mod Running
 pub mod Shares

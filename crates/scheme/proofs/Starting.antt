@@ -132,7 +132,7 @@ flow_in : (case : Case) → IsRead case → (p : ℕ) → (p < length case.pipes
 flow_in case read p (inl h) = let q = read.pipes p no_pipe h in q.flow
 flow_in case read p (inr h) = rw (get_or-eq_default case.pipes no_pipe h) (omega arith)
 
-along_size : (at_last : Bool) (q : ℤ) → unsigned_abs (cond at_last q (neg_ℤ q)) ≡ unsigned_abs q
+pub along_size : (at_last : Bool) (q : ℤ) → unsigned_abs (cond at_last q (neg_ℤ q)) ≡ unsigned_abs q
 along_size true q = refl
 along_size false q = omega (arith, ints)
 

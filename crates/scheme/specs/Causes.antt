@@ -1,17 +1,23 @@
--- Why a place is Bad: a point that it reads is, a characteristic that it reads is out of range, or a head,
+-- Why a place or an end of a node is Bad: a point that it reads is, a characteristic that it reads is out of range, or a head,
 -- flow or volume of its own leaves its range. The growth of a cavity is no cause.
-use Rattle.std.specs.Prelude.{◌≡◌, ℤ, pos, int_le, int_lt, unsigned_abs, ◌==◌, ◌&&◌, Bool, true, false, Option, Some, None, if◌then◌else◌}
+use Rattle.std.specs.Prelude.{◌≡◌, ◌<◌, ℕ, ℤ, pos, int_le, int_lt, unsigned_abs, ◌==◌, ◌&&◌, Bool, true, false, Option, Some, None, if◌then◌else◌, List, length}
+use Rattle.std.specs.List.{AllByRecursion}
 use Rattle.std.specs.Int.{int_max}
+use Rattle.case_model.specs.declared.cases.Case.{Case}
 use Rattle.case_model.specs.declared.cases.Friction.{Friction}
 use Rattle.case_model.specs.declared.meshes.Arrival.{Arrival}
 use Rattle.case_model.specs.declared.meshes.CavityRule.{CavityRule}
+use Rattle.case_model.specs.declared.meshes.Mesh.{Mesh}
 use Rattle.case_model.specs.declared.points.Point.{Point}
 use Rattle.case_model.specs.declared.points.Point.TheVariants.{Good, Bad}
-use Rattle.case_model.specs.Places.{is_bad}
+use Rattle.case_model.specs.declared.states.NodeState.{NodeState}
+use Rattle.case_model.specs.Accepted.{IsAccepted}
+use Rattle.case_model.specs.Places.{is_bad, is_bad_state}
 use Rattle.case_model.specs.Range.{InRange}
 use Rattle.charline.specs.Characteristics.{arrive_plus, arrive_minus}
 use Rattle.charline.specs.Cavity.{cavity_volume}
 use Rattle.charline.specs.Interior.{meeting_head, meeting_flow, flow_before, flow_after, growth, inner_point}
+use Rattle.scheme.specs.NodeLaws.{node_law}
 
 -- a result is Good exactly where what it needs holds
 pub record IsGoodExactly (bad : Bool) (Needs : Type 0) : Type 0 where
@@ -69,3 +75,13 @@ abbrev pub PlacesHaveCauses : Type 0
 PlacesHaveCauses =
     (friction : Friction) (rule : CavityRule) (b r : ℤ) (left own right : Point) →
     IsGoodExactly (is_bad (inner_point friction rule b r left own right)) (PlaceNeeds friction rule b r left own right)
+
+-- the ends of a node are Bad exactly where its state is
+abbrev pub EndsFollow : NodeState × List Point → Type 0
+EndsFollow r = AllByRecursion (λ p. is_bad p ≡ is_bad_state r.0) r.1
+
+-- the range rule of ends, at each node of a case that division accepts
+abbrev pub EndsHaveCauses : Type 0
+EndsHaveCauses =
+    (case : Case) (mesh : Mesh) → IsAccepted case mesh → (k step : ℕ) (own : NodeState) (near : List Point) →
+    k < length mesh.ends → EndsFollow (node_law case mesh k step own near)
