@@ -1,7 +1,6 @@
 -- The range rule of places: the point that the law gives is that of its numbers.
 use Rattle.std.proofs.Common.{◌≡◌, ℤ, pos, int_le, int_lt, unsigned_abs, ◌==◌, ◌&&◌, Bool, true, false, cond, Option, Some, None, refl, ap, subst, sym, ◌∙◌}
 use Rattle.std.specs.Int.{int_max}
-use Rattle.case_model.specs.declared.cases.Friction.{Friction}
 use Rattle.case_model.specs.declared.meshes.Arrival.{Arrival}
 use Rattle.case_model.specs.declared.meshes.CavityRule.{CavityRule}
 use Rattle.case_model.specs.declared.points.Point.{Point}
@@ -12,7 +11,7 @@ use Rattle.case_model.specs.RangeLaws.{point_of-good, point_of-bad}
 use Rattle.charline.specs.Characteristics.{arrive_plus, arrive_minus}
 use Rattle.charline.specs.Cavity.{cavity_volume}
 use Rattle.charline.specs.Interior.{meeting_head, meeting_flow, flow_before, flow_after, growth, kept_or_closed, meet, meet_if, inner_point}
-use Rattle.scheme.specs.Causes.{IsGoodExactly, Numbers, AreInRange, liquid_numbers, held_numbers, after_cavity, met_numbers, MeetingNeeds, PlaceNeeds, PlacesHaveCauses}
+use Rattle.scheme.specs.Causes.{IsGoodExactly, Numbers, AreInRange, liquid_numbers, held_numbers, after_cavity, met_numbers, MeetingNeeds, PlacesHaveCauses}
 
 abbrev point_with : Numbers → Point
 point_with n = point_of n.head n.up n.down n.volume

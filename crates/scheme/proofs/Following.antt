@@ -1,5 +1,5 @@
 -- The ends of a node are Bad exactly where its state is.
-use Rattle.std.proofs.Common.{◌≡◌, ℕ, zero, suc, ◌<◌, ◌≤◌, ◌==◌, ◌&&◌, int_le, int_lt, Bool, true, false, cond, ℤ, pos, ◌-ℤ◌, ◌+ℤ◌, unsigned_abs, Option, Some, None, List, [], ◌∷◌, length, refl, ap, subst, sym, ◌∙◌, arith}
+use Rattle.std.proofs.Common.{◌≡◌, ℕ, zero, suc, ◌≤◌, ◌==◌, ◌&&◌, int_le, int_lt, Bool, true, false, cond, ℤ, pos, ◌-ℤ◌, ◌+ℤ◌, unsigned_abs, Option, Some, None, List, [], ◌∷◌, length, refl, ap, subst, sym, ◌∙◌, arith}
 use Rattle.std.specs.Prelude.{replicate}
 use Rattle.std.specs.List.{AllByRecursion, list_all}
 use Rattle.std.proofs.lemmas.Bool.{and_from, and_parts, leb-true}
@@ -18,7 +18,6 @@ use Rattle.case_model.specs.declared.meshes.Through.TheVariants.{Good as Passes,
 use Rattle.case_model.specs.declared.points.Point.{Point}
 use Rattle.case_model.specs.declared.states.NodeState.{NodeState}
 use Rattle.case_model.specs.declared.states.NodeState.TheVariants.{Good as GoodState, Bad as BadState}
-use Rattle.case_model.specs.Accepted.{IsAccepted}
 use Rattle.case_model.specs.Mesh.{ends_of}
 use Rattle.case_model.specs.Parts.{node_at}
 use Rattle.case_model.specs.Places.{is_bad, is_bad_state}
@@ -31,14 +30,14 @@ use Rattle.std.specs.Int.{int_max}
 use Rattle.junctions.specs.Levels.{is_flow, inflows, state_at, filled, flows_of}
 use Rattle.junctions.specs.Junctions.{reservoir_state, reservoir_flows, junction_head, junction_growth, kept_or_closed as junction_kept, junction_after, junction_state, junction_flows}
 use Rattle.valves.specs.declared.discharges.Valve.{Valve}
-use Rattle.valves.specs.Discharges.{flowing as with_flow, end_at, liquid_flow, liquid_head, discharge_growth, kept_or_closed as discharge_kept, discharge_after, discharge_end, discharge_state, discharge_flow}
-use Rattle.valves.specs.Devices.{is_head, through_of, through, inline_through}
+use Rattle.valves.specs.Discharges.{flowing as with_flow, end_at, liquid_flow, liquid_head, discharge_growth, kept_or_closed as discharge_kept, discharge_after, discharge_end, discharge_flow}
+use Rattle.valves.specs.Devices.{is_head, through, inline_through}
 use Rattle.pumps.specs.Pumps.{pump_through}
 use Rattle.vessels.specs.Vessels.{tank_state, tank_flows, vessel_volume, has_volume, vessel_state, vessel_flows}
 use Rattle.scheme.specs.Arrivals.{arrival_from, arrivals_from, joined}
 use Rattle.scheme.specs.Causes.{EndsFollow, EndsHaveCauses}
 use Rattle.scheme.specs.Computable.{Suits}
-use Rattle.scheme.specs.Ends.{along, end_point, end_points, bad_points, through_state, through_points}
+use Rattle.scheme.specs.Ends.{along, end_point, end_points, bad_points, through_points}
 use Rattle.scheme.specs.LawRange.{law_of_kind-good}
 use Rattle.scheme.specs.NodeLaws.{between, with_flows, sole, valve_of, law_of_kind, law_if, node_law}
 use Rattle.scheme.specs.Values.{rule_at, value_at}
@@ -269,7 +268,7 @@ joined_length (Some a) (Some rest) arrivals n r h =
 joined_length (Some a) None arrivals n r h = cc
 joined_length None os arrivals n r h = cc
 
-arrivals_length : (friction : Friction) (mesh : Mesh) (ends : List End) (near : List Point) (arrivals : List Arrival) → arrivals_from friction mesh ends near ≡ Some arrivals → length arrivals ≡ length ends
+pub arrivals_length : (friction : Friction) (mesh : Mesh) (ends : List End) (near : List Point) (arrivals : List Arrival) → arrivals_from friction mesh ends near ≡ Some arrivals → length arrivals ≡ length ends
 arrivals_length friction mesh [] near arrivals h = let e : [] ≡ arrivals = cc in subst (λ (all : List Arrival). length all ≡ 0) e refl
 arrivals_length friction mesh (x ∷ ends) [] arrivals h = cc
 arrivals_length friction mesh (x ∷ ends) (y ∷ near) arrivals h =

@@ -3,6 +3,7 @@ pub mod Divided
 pub mod EndPoints
 pub mod Following
 pub mod Gathered
+pub mod NodeCaused
 pub mod Running
 pub mod Shares
 pub mod Starting

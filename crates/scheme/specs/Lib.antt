@@ -4,6 +4,7 @@ pub mod Computable
 pub mod Ends
 pub mod LawRange
 pub mod Laws
+pub mod NodeCauses
 pub mod NodeLaws
 pub mod ReadProps
 pub mod Starts

@@ -15,5 +15,5 @@ mod physics;
 mod starts;
 mod values;
 
-pub use causes::{bad_ends_have_causes, bad_places_have_causes};
+pub use causes::{bad_ends_have_causes, bad_nodes_have_causes, bad_places_have_causes};
 pub use physics::Physics;
