@@ -1,6 +1,7 @@
 -- Where division breaks no rule, each part of the case keeps the rules on it.
 use Rattle.std.proofs.Common.{◌≡◌, ℕ, ◌<◌, ◌≤◌, ◌==◌, ◌&&◌, ◌||◌, not, nat_lt, Bool, true, false, List, [], ◌∷◌, length, refl, ap, zero-add, ◌∙◌, eq-eqb, arith, if◌then◌else◌}
 use Rattle.std.specs.List.{range_with_len}
+use Rattle.std.proofs.lemmas.Bool.{false_from_ne_true, or_left, or_parts, or_right}
 use Rattle.std.proofs.lemmas.Bool.Decides.{nat_tests}
 use Rattle.std.proofs.lemmas.List.Folds.{list_any_at}
 use Rattle.std.proofs.lemmas.List.FromFn.{get_or-range_with_len, length-range_with_len, get_or-map-range_with_len, length-map-range_with_len}
@@ -23,14 +24,6 @@ in_any rules n k line number h t =
     list_any_at (λ i. rules i line number) (range_with_len 0 n) k 0 (omega (arith, length-range_with_len 0 n))
     (ap (λ i. rules i line number) (get_or-range_with_len 0 n k 0 h ∙ zero-add k) ∙ t)
 
-or_first : (a b : Bool) → a ≡ true → (a || b) ≡ true
-or_first true b h = refl
-or_first false b h = absurd (grind arith)
-
-or_second : (a b : Bool) → b ≡ true → (a || b) ≡ true
-or_second true b h = refl
-or_second false b h = h
-
 unbroken_pipe : (a b c d : Bool)
     → ((n : ℕ) → (((n == 11) && a) || ((n == 12) && not b) || ((n == 13) && b && not c) || ((n == 15) && b && not d)) ≡ true → ⊥)
     → (not a && b && c && d) ≡ true
@@ -46,8 +39,8 @@ all_divided case empty p h =
     let q = pipe_at case p in
     let n = reach_count case.dt q in
     unbroken_pipe (q.first == q.last) (is_count n) (is_adjusted case.dt case.tolerance n q) (has_coefficients case.dt n q) (λ number t. empty q.line number
-    (or_first _ (any_below (probe_rules case) (length case.probes) q.line number)
-    (or_first _ (any_below (node_rules case) (length case.nodes) q.line number)
+    (or_left _ (any_below (probe_rules case) (length case.probes) q.line number)
+    (or_left _ (any_below (node_rules case) (length case.nodes) q.line number)
     (in_any (pipe_rules case) (length case.pipes) p q.line number h (rw (eq-eqb q.line q.line refl) t)))))
 
 -- a node whose ends suit it and that keeps its limits
@@ -66,8 +59,8 @@ unfolding part_rules breaks_node
 all_suited case empty k h =
     let n = node_at case k in
     unbroken_node (ends_suit (most_ends case.version) n.kind (node_ends case k)) (exceeds case n.kind (node_ends case k)) (λ number t. empty n.line number
-    (or_first _ (any_below (probe_rules case) (length case.probes) n.line number)
-    (or_second (any_below (pipe_rules case) (length case.pipes) n.line number) _
+    (or_left _ (any_below (probe_rules case) (length case.probes) n.line number)
+    (or_right (any_below (pipe_rules case) (length case.pipes) n.line number) _
     (in_any (node_rules case) (length case.nodes) k n.line number h (rw (eq-eqb n.line n.line refl) t)))))
 
 record AreFew (most : ℕ) (ends : List End) : Type 0 where
@@ -102,34 +95,26 @@ all_few case empty k h =
     let s = cond_within (case.version == 1) in
     suited_few (most_ends case.version) (node_at case k).kind (node_ends case k) (omega arith) (all_suited case empty k h).suit
 
-not_true : (b : Bool) → (b ≡ true → ⊥) → b ≡ false
-not_true true h = absurd (h refl)
-not_true false h = refl
-
 pub none_off : (case : Case) (q : ℕ) → IsEmpty (part_rules case) → q < length case.probes → is_off case (probe_at case q).at ≡ false
 unfolding part_rules
 none_off case q empty h =
     let line = (probe_at case q).line in
-    not_true (is_off case (probe_at case q).at) (λ t. empty line 16
-    (or_second (either (any_below (pipe_rules case) (length case.pipes)) (any_below (node_rules case) (length case.nodes)) line 16) (any_below (probe_rules case) (length case.probes) line 16)
+    false_from_ne_true (is_off case (probe_at case q).at) (λ t. empty line 16
+    (or_right (either (any_below (pipe_rules case) (length case.pipes)) (any_below (node_rules case) (length case.nodes)) line 16) (any_below (probe_rules case) (length case.probes) line 16)
     (in_any (probe_rules case) (length case.probes) q line 16 h (rw (eq-eqb line line refl, t) refl))))
-
-neither : (a b : Bool) → (a || b) ≡ false → (a ≡ false) × (b ≡ false)
-neither true b h = absurd (grind arith)
-neither false b h = (refl, h)
 
 not_large : (case : Case) → IsEmpty (size_rules case) → is_too_large case ≡ false
 unfolding size_rules
-not_large case empty = not_true (is_too_large case) (λ h. empty 0 10 (rw h refl))
+not_large case empty = false_from_ne_true (is_too_large case) (λ h. empty 0 10 (rw h refl))
 
 few_places : (case : Case) → IsEmpty (size_rules case) → place_base case (length case.pipes) ≤ 400_000
 few_places case empty =
-    let l = neither (nat_lt 400_000 (place_base case (length case.pipes))) (nat_lt 4_000_000 (sample_count case)) (not_large case empty) in
+    let l = or_parts (nat_lt 400_000 (place_base case (length case.pipes))) (nat_lt 4_000_000 (sample_count case)) (not_large case empty) in
     grind (arith, nat_tests)
 
 few_samples : (case : Case) → IsEmpty (size_rules case) → sample_count case ≤ 4_000_000
 few_samples case empty =
-    let l = neither (nat_lt 400_000 (place_base case (length case.pipes))) (nat_lt 4_000_000 (sample_count case)) (not_large case empty) in
+    let l = or_parts (nat_lt 400_000 (place_base case (length case.pipes))) (nat_lt 4_000_000 (sample_count case)) (not_large case empty) in
     grind (arith, nat_tests)
 
 pub kept : (case : Case) → AreEmpty (passes case) → IsKept case

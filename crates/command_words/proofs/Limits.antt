@@ -24,7 +24,7 @@ record Limits (number : Option ℕ) (workers slots window : ℕ) : Type 0 where
   of_number : unwrap_or number 0 ≤ 999_999
   of_workers : (1 ≤ workers) × (workers ≤ 64)
   of_slots : (1 ≤ slots) × (slots ≤ 8)
-  of_window : (1 ≤ window) × (window ≤ 64)
+  of_window : (1 ≤ window) × (window ≤ 256)
 
 job_within : (wanted : Command) (number : Option ℕ) (workers slots window : ℕ) (job : Job) → Limits number workers slots window
     → job_with wanted number workers slots window ≡ Some job → IsJob job
@@ -58,5 +58,5 @@ job_limits f job has is = go (option_and_then command_of (first_of (codes "comma
       of_number = (within f (codes "number") 0 999_999 0 has.of_number (omega arith) (omega arith)).1;
       of_workers = within f (codes "workers") 1 64 4 has.of_workers (omega arith) (omega arith);
       of_slots = within f (codes "slots") 1 8 4 has.of_slots (omega arith) (omega arith);
-      of_window = within f (codes "window") 1 64 64 has.of_window (omega arith) (omega arith);
+      of_window = within f (codes "window") 1 256 64 has.of_window (omega arith) (omega arith);
     }) e

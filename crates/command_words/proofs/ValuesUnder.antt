@@ -127,7 +127,7 @@ record HasParsers (rules : List Rule) : Type 0 where
   of_number : EachIs (vp.Signed (pos 0) (pos 999_999)) (codes "number") rules
   of_workers : EachIs (vp.Signed (pos 1) (pos 64)) (codes "workers") rules
   of_slots : EachIs (vp.Unsigned 1 8) (codes "slots") rules
-  of_window : EachIs (vp.Unsigned 1 64) (codes "window") rules
+  of_window : EachIs (vp.Unsigned 1 256) (codes "window") rules
 
 line_parsers : HasParsers line.top.rules
 unfolding line
@@ -168,7 +168,7 @@ numbers_of c f used plain parsers parsed =
       of_number = λ t e. signed_has 0 999_999 t (text_under c f (vp.Signed (pos 0) (pos 999_999)) (codes "number") t values fields.groups (λ no. cc) parsers.of_number e);
       of_workers = λ t e. signed_has 1 64 t (text_under c f (vp.Signed (pos 1) (pos 64)) (codes "workers") t values fields.groups (λ no. cc) parsers.of_workers e);
       of_slots = λ t e. unsigned_has 1 8 t (text_under c f (vp.Unsigned 1 8) (codes "slots") t values fields.groups (λ no. cc) parsers.of_slots e);
-      of_window = λ t e. unsigned_has 1 64 t (text_under c f (vp.Unsigned 1 64) (codes "window") t values fields.groups (λ no. cc) parsers.of_window e);
+      of_window = λ t e. unsigned_has 1 256 t (text_under c f (vp.Unsigned 1 256) (codes "window") t values fields.groups (λ no. cc) parsers.of_window e);
     }
 
 -- the numbers of a parse by the command line lie within their limits

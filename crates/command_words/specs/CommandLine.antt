@@ -12,6 +12,17 @@ use Rattle.command_words.specs.declared.job.Job.{Job}
 use Rattle.command_words.specs.declared.job.Command.{Command}
 use Rattle.command_words.specs.declared.job.Command.TheVariants as command
 
+-- ---- the most workers, the most slots of a history, and the most steps of a window
+
+abbrev pub most_workers : ℕ
+most_workers = 64
+
+abbrev pub most_slots : ℕ
+most_slots = 8
+
+abbrev pub widest_window : ℕ
+widest_window = 256
+
 -- ---- the command line: two positionals and three options of one value each
 
 abbrev pub command_rule : Rule
@@ -24,13 +35,13 @@ abbrev pub option_rule : Text → ValueParser → Rule
 option_rule name parser = record (new_rule name) { long = Some name; parser = Some parser }
 
 abbrev pub workers_rule : Rule
-workers_rule = option_rule (codes "workers") (vp.Signed (pos 1) (pos 64))
+workers_rule = option_rule (codes "workers") (vp.Signed (pos 1) (pos most_workers))
 
 abbrev pub slots_rule : Rule
-slots_rule = option_rule (codes "slots") (vp.Unsigned 1 8)
+slots_rule = option_rule (codes "slots") (vp.Unsigned 1 most_slots)
 
 abbrev pub window_rule : Rule
-window_rule = option_rule (codes "window") (vp.Unsigned 1 64)
+window_rule = option_rule (codes "window") (vp.Unsigned 1 widest_window)
 
 unfoldable pub line : App
 line = with_rule (with_rule (with_rule (with_rule (with_rule (new_app (codes "surge"))
@@ -54,6 +65,7 @@ command_of word =
     else if bytes_eq word (codes "rounds") then Some command.Rounds
     else if bytes_eq word (codes "run") then Some command.Run
     else if bytes_eq word (codes "drill") then Some command.Drill
+    else if bytes_eq word (codes "upgrade") then Some command.Upgrade
     else None
 
 abbrev pub wants_number : Command → Bool
@@ -105,16 +117,16 @@ HasIn low high id f = (text : Text) → one_text f id ≡ Some text → IsIn low
 
 pub record HasNumbers (f : Found) : Type 0 where
   pub of_number : HasIn 0 999_999 (codes "number") f
-  pub of_workers : HasIn 1 64 (codes "workers") f
-  pub of_slots : HasIn 1 8 (codes "slots") f
-  pub of_window : HasIn 1 64 (codes "window") f
+  pub of_workers : HasIn 1 most_workers (codes "workers") f
+  pub of_slots : HasIn 1 most_slots (codes "slots") f
+  pub of_window : HasIn 1 widest_window (codes "window") f
 
 -- the numbers of a job lie within their limits
 pub record IsJob (job : Job) : Type 0 where
   pub number_most : job.number ≤ 999_999
   pub workers_least : 1 ≤ job.workers
-  pub workers_most : job.workers ≤ 64
+  pub workers_most : job.workers ≤ most_workers
   pub slots_least : 1 ≤ job.slots
-  pub slots_most : job.slots ≤ 8
+  pub slots_most : job.slots ≤ most_slots
   pub window_least : 1 ≤ job.window
-  pub window_most : job.window ≤ 64
+  pub window_most : job.window ≤ widest_window

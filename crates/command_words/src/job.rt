@@ -14,6 +14,8 @@ pub enum Command {
     Run,
     /// Compute a case that is made from a number.
     Drill,
+    /// Write the case text in its newest version.
+    Upgrade,
 }
 
 /// A command with its number and its options.
@@ -27,7 +29,7 @@ pub struct Job {
     pub workers: u32,
     /// How many slots a history has, 1 to 8.
     pub slots: u64,
-    /// The greatest window that is wished for, 1 to 64 steps.
+    /// The greatest window that is wished for, 1 to 256 steps.
     pub window: u64,
 }
 

@@ -7,6 +7,3 @@ mod reading;
 
 pub use job::{Command, Job, WordsFault};
 pub use reading::read_words;
-
-#[cfg(test)]
-mod tests;

@@ -1,10 +1,11 @@
 //! The job that the words name.
 ghost use Rattle.std.specs.Prelude.{◌≡◌, IfOk, MatchResult, None, Some, codes, map, option_and_then};
 ghost use Rattle.clap.specs.Words.{first_of, found_of, rows_of};
-ghost use Rattle.command_words.specs.CommandLine.{HasIn, HasNumbers, IsJob, command_of, job_among, job_of, job_with as job_by, number_at};
+ghost use Rattle.command_words.specs.CommandLine.{HasIn, HasNumbers, IsJob, command_of, job_among};
+ghost use Rattle.command_words.specs.CommandLine.{job_of, job_with as job_by, number_at};
 
 use crate::job::{Command, Job, WordsFault};
-use crate::line::parse;
+use crate::line::{DEFAULT_SLOTS, DEFAULT_WINDOW, DEFAULT_WORKERS, parse};
 use clap::ArgMatches;
 use std::alloc::Global;
 
@@ -35,6 +36,7 @@ fn command_of(word: &str) -> Option<Command>
         "rounds" => Some(Command::Rounds),
         "run" => Some(Command::Run),
         "drill" => Some(Command::Drill),
+        "upgrade" => Some(Command::Upgrade),
         _ => None,
     }
 }
@@ -81,7 +83,8 @@ fn job_with(
 
 // The command among the values that were found.
 fn command_among(matches: &ArgMatches<'_>) -> Option<Command>
-    ensures { result ≡ option_and_then command_of (first_of (codes "command") (rows_of (found_of matches.now))) }
+    ensures { let rows = rows_of (found_of matches.now) in
+        result ≡ option_and_then command_of (first_of (codes "command") rows) }
 {
     match matches.get_str("command") {
         Some(word) => command_of(word),
@@ -97,8 +100,8 @@ fn job_among_matches(matches: &ArgMatches<'_>) -> Option<Job>
 {
     let command = command_among(matches)?;
     let number = small_number(matches, "number");
-    let workers = small_number(matches, "workers").unwrap_or(4);
-    let slots = wide_number(matches, "slots").unwrap_or(4);
-    let window = wide_number(matches, "window").unwrap_or(64);
+    let workers = small_number(matches, "workers").unwrap_or(DEFAULT_WORKERS);
+    let slots = wide_number(matches, "slots").unwrap_or(DEFAULT_SLOTS);
+    let window = wide_number(matches, "window").unwrap_or(DEFAULT_WINDOW);
     job_with(command, number, workers, slots, window)
 }

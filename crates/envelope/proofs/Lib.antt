@@ -11,3 +11,4 @@ pub mod Overall
 pub mod Numbered
 pub mod RowFolds
 pub mod Lined
+pub mod Told

@@ -9,13 +9,15 @@ use Rattle.case_model.specs.declared.points.Point.TheVariants.{Bad}
 use Rattle.envelope.specs.Cells.{is_within, cell_of, span_of, first_of_span, IsRising, IsLaidOut, IsPlaced, AreInSpan, AreInOneSpan}
 use Rattle.envelope.specs.CellLaws.{within-span}
 use Rattle.envelope.specs.Extremes.{first_of}
-use Rattle.envelope.specs.Folds.{Stands, AreSameCells, cell_in, count_of_cells, spans_of, steps_of}
+use Rattle.envelope.specs.Changes.{AreSameCells}
+use Rattle.envelope.specs.Folds.{spans_of, steps_of}
+use Rattle.envelope.specs.Layout.{IsHeld, cell_in, count_of_cells}
 use Rattle.envelope.specs.Notings.{Noting, Noted, only, noted, line_noted, union, Agree}
 use Rattle.envelope.specs.Notings.Noting.{OfPoint}
 use Rattle.envelope.specs.declared.folds.Fold.{Fold}
 use Rattle.envelope.proofs.Noted.{only-here, only-then, only-there}
 use Rattle.envelope.proofs.Placed.{placed, at-most, or-over}
-use Rattle.envelope.proofs.RowFolds.{stands-same}
+use Rattle.envelope.proofs.RowFolds.{held-same}
 use Rattle.envelope.proofs.Sampled.{alone, decided}
 
 -- ---- the cells of places of one span
@@ -157,17 +159,17 @@ line-agrees map step first i points d h g = λ s k a b p q.
       ]
     ]
 
-pub stands-yet : (fold : Fold) (map : Noted) (step first : ℕ) (points : List Point) → Stands fold map → Stands fold (union map (part step first 0 points))
-stands-yet fold map step first points p = stands-same fold map (union map (part step first 0 points)) (λ s k l w. sym (alone (map s k) (part step first 0 points s k) (none-yet step first points s k))) p
+pub held-yet : (fold : Fold) (map : Noted) (step first : ℕ) (points : List Point) → IsHeld fold map → IsHeld fold (union map (part step first 0 points))
+held-yet fold map step first points p = held-same fold map (union map (part step first 0 points)) (λ s k l w. sym (alone (map s k) (part step first 0 points s k) (none-yet step first points s k))) p
 
-pub stands-on : (fold : Fold) (map : Noted) (step first i : ℕ) (points : List Point) (d : Point) → i < length points
-    → Stands fold (noted (union map (part step first i points)) step (first + i) (OfPoint (get_or points i d))) → Stands fold (union map (part step first (i + 1) points))
-stands-on fold map step first i points d h p =
-    stands-same fold (noted (union map (part step first i points)) step (first + i) (OfPoint (get_or points i d))) (union map (part step first (i + 1) points)) (λ s k l w. line-more map step first i points d s k h) p
+pub held-on : (fold : Fold) (map : Noted) (step first i : ℕ) (points : List Point) (d : Point) → i < length points
+    → IsHeld fold (noted (union map (part step first i points)) step (first + i) (OfPoint (get_or points i d))) → IsHeld fold (union map (part step first (i + 1) points))
+held-on fold map step first i points d h p =
+    held-same fold (noted (union map (part step first i points)) step (first + i) (OfPoint (get_or points i d))) (union map (part step first (i + 1) points)) (λ s k l w. line-more map step first i points d s k h) p
 
-pub stands-whole : (fold : Fold) (map : Noted) (step first i : ℕ) (points : List Point) → i ≡ length points → Stands fold (union map (part step first i points)) → Stands fold (union map (line_noted step first points))
-stands-whole fold map step first i points e p =
-    stands-same fold (union map (part step first i points)) (union map (line_noted step first points))
+pub held-whole : (fold : Fold) (map : Noted) (step first i : ℕ) (points : List Point) → i ≡ length points → IsHeld fold (union map (part step first i points)) → IsHeld fold (union map (line_noted step first points))
+held-whole fold map step first i points e p =
+    held-same fold (union map (part step first i points)) (union map (line_noted step first points))
     (λ s k l w. ap (λ n. first_of (map s k) (part step first n points s k)) e ∙ ap (λ a. first_of (map s k) a) (whole-line step first points s k)) p
 
 -- ---- the cells of a fold in which the first points were noted
@@ -187,13 +189,13 @@ still-inside old fold first count i cell e p h c =
 
 -- ---- a line that changes nothing
 
-stands-still : (fold : Fold) (map : Noted) (step first : ℕ) (points : List Point) → ((s k : ℕ) → s ≤ steps_of fold → line_noted step first points s k ≡ None) → Stands fold map → Stands fold (union map (line_noted step first points))
-stands-still fold map step first points h p = stands-same fold map (union map (line_noted step first points)) (λ s k l w. sym (alone (map s k) (line_noted step first points s k) (h s k l))) p
+held-still : (fold : Fold) (map : Noted) (step first : ℕ) (points : List Point) → ((s k : ℕ) → s ≤ steps_of fold → line_noted step first points s k ≡ None) → IsHeld fold map → IsHeld fold (union map (line_noted step first points))
+held-still fold map step first points h p = held-same fold map (union map (line_noted step first points)) (λ s k l w. sym (alone (map s k) (line_noted step first points s k) (h s k l))) p
 
-pub stands-past : (fold : Fold) (map : Noted) (step first : ℕ) (points : List Point) → steps_of fold < step → Stands fold map → Stands fold (union map (line_noted step first points))
-stands-past fold map step first points h p =
-    stands-still fold map step first points (λ s k l. sym (whole-line step first points s k) ∙ part-then step first (length points) points s k (λ e. omega arith)) p
+pub held-past : (fold : Fold) (map : Noted) (step first : ℕ) (points : List Point) → steps_of fold < step → IsHeld fold map → IsHeld fold (union map (line_noted step first points))
+held-past fold map step first points h p =
+    held-still fold map step first points (λ s k l. sym (whole-line step first points s k) ∙ part-then step first (length points) points s k (λ e. omega arith)) p
 
-pub stands-empty : (fold : Fold) (map : Noted) (step first : ℕ) (points : List Point) → length points ≡ 0 → Stands fold map → Stands fold (union map (line_noted step first points))
-stands-empty fold map step first points e p =
-    stands-still fold map step first points (λ s k l. sym (whole-line step first points s k) ∙ ap (λ n. part step first n points s k) e ∙ none-yet step first points s k) p
+pub held-empty : (fold : Fold) (map : Noted) (step first : ℕ) (points : List Point) → length points ≡ 0 → IsHeld fold map → IsHeld fold (union map (line_noted step first points))
+held-empty fold map step first points e p =
+    held-still fold map step first points (λ s k l. sym (whole-line step first points s k) ∙ ap (λ n. part step first n points s k) e ∙ none-yet step first points s k) p

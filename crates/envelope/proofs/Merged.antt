@@ -5,7 +5,9 @@ use Rattle.std.proofs.lemmas.List.{get_or_read}
 use Rattle.case_model.specs.Samples.{Sample}
 use Rattle.envelope.specs.Cells.{is_within, cell_of, first_of_span, end_of_span, IsRising}
 use Rattle.envelope.specs.Extremes.{either, HasExtreme, unmet}
-use Rattle.envelope.specs.Folds.{IsStanding, StandsAt, Stands, AreJoined, IsMergeable, IsSameLayout, spans_of, steps_of, every_of, probes_of, line_in}
+use Rattle.envelope.specs.Changes.{AreJoined, IsMergeable, IsSameLayout}
+use Rattle.envelope.specs.Folds.{spans_of, steps_of, every_of, probes_of}
+use Rattle.envelope.specs.Layout.{IsStanding, StandsAt, IsHeld, line_in}
 use Rattle.envelope.specs.Faults.{HasFault}
 use Rattle.envelope.specs.Notings.{Noting, Noted, union, Agree, IsInside, column, taken, is_bad_noting}
 use Rattle.envelope.specs.Lines.{HasSamples}
@@ -129,7 +131,7 @@ below-limit spans k limit low w =
     omega arith
 
 place-merged : (old other new : Fold) (map more : Noted) (limit k : ℕ) → AreJoined old other new 0 limit → ((i : ℕ) → i < length (spans_of other) → end_of_span (spans_of other) i ≤ limit) → Agree map more → IsInside (spans_of other) more
-    → Stands old map → Stands other more → is_within (spans_of old) k ≡ true → (is_within (spans_of other) k ≡ true) ⊎ (is_within (spans_of other) k ≡ false) → StandsAt new k (column (union map more) k)
+    → IsHeld old map → IsHeld other more → is_within (spans_of old) k ≡ true → (is_within (spans_of other) k ≡ true) ⊎ (is_within (spans_of other) k ≡ false) → StandsAt new k (column (union map more) k)
 place-merged old other new map more limit k j low g n p q w (inl v) =
     same-standing new.spans.items new.bases.items new.steps new.every new.marks.items new.cells.items new.samples.items k (either (column map k) (column more k)) (column (union map more) k)
     (λ s l. taken-either (map s k) (more s k) (g s k))
@@ -140,7 +142,7 @@ place-merged old other new map more limit k j low g n p q w (inr v) =
     (j.kept k w (inr (inr v)) (column map k) (p.places k w))
 
 pub places-merged : (old other new : Fold) (map more : Noted) (limit : ℕ) → AreJoined old other new 0 limit → ((i : ℕ) → i < length (spans_of other) → end_of_span (spans_of other) i ≤ limit) → Agree map more → IsInside (spans_of other) more
-    → Stands old map → Stands other more → (k : ℕ) → is_within (spans_of new) k ≡ true → StandsAt new k (column (union map more) k)
+    → IsHeld old map → IsHeld other more → (k : ℕ) → is_within (spans_of new) k ≡ true → StandsAt new k (column (union map more) k)
 places-merged old other new map more limit j low g n p q k w =
     place-merged old other new map more limit k j low g n p q (subst (λ sp. is_within sp k ≡ true) j.layout.same.spans_are w) (true-or-false (is_within (spans_of other) k))
 

@@ -5,7 +5,9 @@ use Rattle.std.proofs.Math.Bool.{and-false}
 use Rattle.case_model.specs.Samples.{Sample}
 use Rattle.envelope.specs.Cells.{is_within}
 use Rattle.envelope.specs.Extremes.{first_of, either, AgreeAlong}
-use Rattle.envelope.specs.Folds.{StandsAt, Stands, IsKeptAt, IsSameLayout, spans_of, steps_of}
+use Rattle.envelope.specs.Changes.{IsKeptAt, IsSameLayout}
+use Rattle.envelope.specs.Folds.{spans_of, steps_of}
+use Rattle.envelope.specs.Layout.{StandsAt, IsHeld}
 use Rattle.envelope.specs.Faults.{HasFault}
 use Rattle.envelope.specs.Notings.{Noting, Noted, only, noted, union, Agree, column, taken, is_bad_noting}
 use Rattle.envelope.specs.declared.folds.Fold.{Fold}
@@ -98,7 +100,7 @@ places-kept fold map more g h p k w =
     same-standing fold.spans.items fold.bases.items fold.steps fold.every fold.marks.items fold.cells.items fold.samples.items k (column map k) (column (union map more) k)
     (λ s l. nothing-more (map s k) (more s k) (g s k) (h s k l)) (p k w)
 
-pub noted-past : (fold : Fold) (map : Noted) (step place : ℕ) (x : Noting) → steps_of fold < step → Agree map (only step place x) → Stands fold map → Stands fold (noted map step place x)
+pub noted-past : (fold : Fold) (map : Noted) (step place : ℕ) (x : Noting) → steps_of fold < step → Agree map (only step place x) → IsHeld fold map → IsHeld fold (noted map step place x)
 noted-past fold map step place x h g p = record {
   places = places-kept fold map (only step place x) g (λ s k l. ap taken (past-only (steps_of fold) step place x s k h l)) p.places;
   first_fault = fault-kept (spans_of fold) (steps_of fold) map (only step place x) fold.fault g p.first_fault (past-good (spans_of fold) (steps_of fold) step place x h);
@@ -123,7 +125,7 @@ same-fault old new m l h = subst (λ sp. HasFault sp (steps_of new) m new.fault)
     (subst (λ n. HasFault (spans_of old) n m new.fault) (sym l.same.steps_are) (subst (λ f. HasFault (spans_of old) (steps_of old) m f) (sym l.fault_is) h))
 
 pub noted-good : (old new : Fold) (step place : ℕ) (s : Sample) (map : Noted) (x : Noting) → IsKeptAt old new step place s → taken (Some x) ≡ Some s → is_bad_noting (Some x) ≡ false
-    → Agree map (only step place x) → Stands old map → Stands new (noted map step place x)
+    → Agree map (only step place x) → IsHeld old map → IsHeld new (noted map step place x)
 noted-good old new step place s map x n t b g p = record {
   places = λ k w. place-noted old new step place s map x k n t g p.places (subst (λ sp. is_within sp k ≡ true) n.layout.same.spans_are w) (decided k place);
   first_fault = same-fault old new (noted map step place x) n.layout (fault-kept (spans_of old) (steps_of old) map (only step place x) old.fault g p.first_fault (good-only (spans_of old) (steps_of old) step place x b));

@@ -1,11 +1,11 @@
 -- What is read of a fold.
-use Rattle.std.proofs.Common.{◌≡◌, ◌≢◌, ◌∙◌, ℕ, ◌/◌, ◌%◌, ◌<◌, ◌≤◌, inl, inr, refl, sym, ap, [], length, get_or, replicate, Some, None, arith, eq-eqb, ne_eqb}
+use Rattle.std.proofs.Common.{◌≡◌, ◌≢◌, ◌∙◌, ℕ, ◌/◌, ◌%◌, ◌<◌, ◌≤◌, inl, inr, refl, sym, ap, [], length, get_or, replicate, Option, Some, None, arith, eq-eqb, ne_eqb}
 use Rattle.std.proofs.lemmas.Bool.{le-leb, lt-leb}
 use Rattle.std.proofs.lemmas.List.{get_or-replicate, length-replicate, get_or_past}
 use Rattle.std.proofs.Math.Bool.{and-false}
 use Rattle.envelope.specs.Cells.{cell_of}
 use Rattle.envelope.specs.Extremes.{unmet}
-use Rattle.envelope.specs.Folds.{Stands, line_in}
+use Rattle.envelope.specs.Layout.{IsHeld, line_in}
 use Rattle.envelope.specs.Kept.{entry_of, sample_kept}
 use Rattle.envelope.specs.Lines.{told}
 use Rattle.envelope.specs.Notings.{Noted, column, taken, sample_over}
@@ -27,7 +27,7 @@ pub between-sampled : (map : Noted) (every last place step : ℕ) → step % eve
 unfolding sample_over
 between-sampled map every last place step h = rw (ne_eqb (step % every) 0 h) refl
 
-pub sampled : (fold : Fold) (map : Noted) (probe step line : ℕ) → Stands fold map → probe < length fold.probes.items → step ≤ fold.steps → step % fold.every ≡ 0
+pub sampled : (fold : Fold) (map : Noted) (probe step line : ℕ) → IsHeld fold map → probe < length fold.probes.items → step ≤ fold.steps → step % fold.every ≡ 0
     → get_or fold.marks.items (cell_of fold.spans.items fold.bases.items (get_or fold.probes.items probe 0)) None ≡ Some line
     → told (get_or (get_or fold.samples.items line []) (step / fold.every) None) ≡ sample_over map fold.every fold.steps (get_or fold.probes.items probe 0) step
 sampled fold map probe step line p l le m h =
@@ -61,3 +61,8 @@ all-unmet n i = elim (or-over n i) [
   | inl h ↦ get_or_past (replicate n unmet) i unmet (omega (arith, length-replicate {A = Extreme}))
   | inr h ↦ get_or-replicate n i unmet unmet h
 ]
+
+-- a probe has a line of samples
+pub line-by : (o : Option ℕ) → o ≢ None → (line : ℕ) × (o ≡ Some line)
+line-by None h = absurd (h refl)
+line-by (Some line) h = (line, refl)

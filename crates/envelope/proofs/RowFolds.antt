@@ -1,7 +1,7 @@
 -- What a fold keeps that was told the rows of a law.
 use Rattle.std.proofs.Common.{◌≡◌, ◌≢◌, ◌∙◌, ℕ, ◌%◌, ◌<◌, ◌≤◌, ◌⊎◌, inl, inr, ℤ, refl, sym, ap, subst, Bool, true, false, List, [], ◌∷◌, length, map, get_or, Option, Some, None, arith, eq-eqb, ne_eqb}
 use Rattle.std.specs.Prelude.{◌≤ℤ◌, ◌<ℤ◌}
-use Rattle.std.proofs.lemmas.Bool.{false≢true, le-leb, lt-leb}
+use Rattle.std.proofs.lemmas.Bool.{false≢true, le-leb, lt-leb, false_from_ne_true}
 use Rattle.std.proofs.lemmas.Int.{ints}
 use Rattle.std.proofs.lemmas.List.{get_or_past, get_or-map, length-map}
 use Rattle.std.proofs.Math.Bool.{and-false}
@@ -13,20 +13,21 @@ use Rattle.case_model.specs.declared.points.Point.{Point}
 use Rattle.case_model.specs.declared.points.Point.TheVariants.{Good, Bad}
 use Rattle.case_model.specs.declared.states.NodeState.{NodeState}
 use Rattle.case_model.specs.declared.states.NodeState.TheVariants.{Good as GoodState, Bad as BadState}
-use Rattle.case_model.specs.FaultLaws.{first_fault-only, first_fault-None, first_fault-none_bad}
+use Rattle.case_model.proofs.FaultLaws.{first_fault-only, first_fault-None, first_fault-none_bad, first_fault-Some}
 use Rattle.case_model.specs.FirstFault.{first_fault, IsFirstFault}
 use Rattle.case_model.specs.Meaning.{Meaning}
 use Rattle.case_model.specs.Mesh.{IsNumbered}
 use Rattle.case_model.specs.Parts.{no_probe, probe_at}
-use Rattle.case_model.specs.PlaceLaws.{bad-at_node, bad-at_place, length-bad_places}
+use Rattle.case_model.proofs.PlaceLaws.{bad-at_node, bad-at_place, length-bad_places}
 use Rattle.case_model.specs.Places.{is_bad, is_bad_state, bad_places}
 use Rattle.case_model.specs.Rows.{Row, row}
 use Rattle.case_model.specs.Samples.{Sample, taken_at, point_sample, node_sample, sample, IsEnvelope}
-use Rattle.envelope.specs.Cells.{is_within, cell_of}
+use Rattle.envelope.specs.Cells.{is_within}
 use Rattle.envelope.specs.CellLaws.{within-first, below-first}
-use Rattle.envelope.specs.Extremes.{HasExtreme, IsEnvelopeOf, extreme_over, unmet}
+use Rattle.envelope.specs.Extremes.{HasExtreme, IsEnvelopeOf, extreme_over}
 use Rattle.envelope.specs.Faults.{HasFault}
-use Rattle.envelope.specs.Folds.{Stands, spans_of, probes_of, steps_of, every_of, cell_in}
+use Rattle.envelope.specs.Folds.{spans_of, probes_of, steps_of, every_of}
+use Rattle.envelope.specs.Layout.{IsHeld}
 use Rattle.envelope.specs.Kept.{extreme_kept, sample_kept}
 use Rattle.envelope.specs.Notings.{Noted, column, taken, is_bad_noting}
 use Rattle.envelope.specs.RowFolds.{HasRows, IsFoldOfCase}
@@ -38,11 +39,11 @@ use Rattle.envelope.proofs.Joined.{same-extreme}
 use Rattle.envelope.proofs.Numbered.{at-number, number-within, number-at}
 use Rattle.envelope.proofs.Overall.{envelope-is, is-envelope}
 use Rattle.envelope.proofs.Placed.{or-over}
-use Rattle.envelope.proofs.Read.{sampled-then, sampled, kept-past, kept-between, kept-line}
+use Rattle.envelope.proofs.Read.{sampled-then, kept-past, kept-between}
 use Rattle.envelope.proofs.Sampled.{decided}
 use Rattle.envelope.proofs.Standing.{same-standing}
 
--- ---- a fold stands for maps that are the same at its steps and places
+-- ---- a fold has in memory what it has of maps that are the same at its steps and places
 
 is-bad-same : (spans : List (ℕ × ℕ)) (last : ℕ) (map more : Noted) (fault : Option (ℕ × ℕ)) → ((s k : ℕ) → s ≤ last → is_within spans k ≡ true → map s k ≡ more s k) → HasFault spans last map fault → HasFault spans last more fault
 is-bad-same spans last map more None h p = λ s k l w. ap is_bad_noting (sym (h s k l w)) ∙ p s k l w
@@ -53,8 +54,8 @@ is-bad-same spans last map more (Some fault) h p = record {
   least = λ s k l w b. p.least s k l w (ap is_bad_noting (h s k l w) ∙ b);
 }
 
-pub stands-same : (fold : Fold) (map more : Noted) → ((s k : ℕ) → s ≤ steps_of fold → is_within (spans_of fold) k ≡ true → map s k ≡ more s k) → Stands fold map → Stands fold more
-stands-same fold map more h p = record {
+pub held-same : (fold : Fold) (map more : Noted) → ((s k : ℕ) → s ≤ steps_of fold → is_within (spans_of fold) k ≡ true → map s k ≡ more s k) → IsHeld fold map → IsHeld fold more
+held-same fold map more h p = record {
   places = λ k w.
       same-standing fold.spans.items fold.bases.items fold.steps fold.every fold.marks.items fold.cells.items fold.samples.items k (column map k) (column more k)
       (λ s l. ap taken (h s k l w)) (p.places k w);
@@ -84,6 +85,9 @@ bad-below law s k n t = elim (or-over law.mesh.places k) [
 ]
 
 -- ---- the first fault
+
+pub fault-below : (law : Meaning) (last step place : ℕ) → IsNumbered law.mesh → first_fault law last ≡ Some (step, place) → place < law.mesh.places
+fault-below law last step place n e = bad-below law step place n (first_fault-Some law last step place e).bad
 
 pub fault-is : (law : Meaning) (last : ℕ) (fault : Option (ℕ × ℕ)) → IsNumbered law.mesh → HasFault ((0, law.mesh.places) ∷ []) last (rows_noted law) fault → fault ≡ first_fault law last
 fault-is law last None n p =
@@ -116,14 +120,10 @@ noting-there : (r : Row) (at : ProbeAt) → is_bad_noting (Some (noting_at r at)
 noting-there r (OnNode node) b = state-there (r.state node) b
 noting-there r (OnPipe pipe place) b = point-there (r.point pipe place) b
 
-not-true : (b : Bool) → (b ≡ true → ⊥) → b ≡ false
-not-true true h = absurd (h refl)
-not-true false h = refl
-
 -- where there is no fault something is taken of each place at each step
 pub taken-there : (law : Meaning) (last s : ℕ) (at : ProbeAt) → IsNumbered law.mesh → IsOn law.mesh at → first_fault law last ≡ None → s ≤ last → taken_at (row law s) at ≢ None
 taken-there law last s at n h f l =
-    noting-there (row law s) at (noting-bad law s at n h ∙ not-true (get_or (bad_places law s) (number_of law.mesh at) false) (λ b. first_fault-None law last f s (number_of law.mesh at) l b))
+    noting-there (row law s) at (noting-bad law s at n h ∙ false_from_ne_true (get_or (bad_places law s) (number_of law.mesh at) false) (λ b. first_fault-None law last f s (number_of law.mesh at) l b))
 
 pub column-is : (law : Meaning) (s : ℕ) (at : ProbeAt) → IsNumbered law.mesh → IsOn law.mesh at → column (rows_noted law) (number_of law.mesh at) s ≡ taken_at (row law s) at
 column-is law s at n h = ap (λ p. taken (Some (noting_at (row law s) p))) (at-number law.mesh at n h) ∙ noting-taken (row law s) at
@@ -142,13 +142,12 @@ place-within : (law : Meaning) (fold : Fold) (at : ProbeAt) → HasRows law fold
 place-within law fold at r h = within-first (spans_of fold) law.mesh.places (number_of law.mesh at) r.spans (number-within law.mesh at r.numbered h)
 
 pub extreme-is : (law : Meaning) (fold : Fold) (at : ProbeAt) → HasRows law fold → first_fault law (steps_of fold) ≡ None → IsOn law.mesh at → extreme_kept fold (number_of law.mesh at) ≡ extreme_at law (steps_of fold) at
-unfolding extreme_kept extreme_at
+unfolding extreme_at
 extreme-is law fold at r f h =
     let k = number_of law.mesh at in
-    let p = r.stands.places k (place-within law fold at r h) in
-    extreme-met (λ s. taken_at (row law s) at) (steps_of fold) (get_or fold.cells.items (cell_in fold k) unmet)
+    extreme-met (λ s. taken_at (row law s) at) (steps_of fold) (extreme_kept fold k)
     (taken-there law (steps_of fold) 0 at r.numbered h f (omega arith))
-    (same-extreme (column (rows_noted law) k) (λ s. taken_at (row law s) at) (steps_of fold) (get_or fold.cells.items (cell_in fold k) unmet) (λ s l. column-is law s at r.numbered h) p.envelope)
+    (same-extreme (column (rows_noted law) k) (λ s. taken_at (row law s) at) (steps_of fold) (extreme_kept fold k) (λ s l. column-is law s at r.numbered h) (r.stands.extremes k (place-within law fold at r h)))
 
 pub envelope-at : (law : Meaning) (at : ProbeAt) (last : ℕ) (e : Extreme) → taken_at (row law 0) at ≢ None → e ≡ extreme_at law last at → IsEnvelope law at last e.max e.max_step e.min e.min_step e.volume e.volume_step
 unfolding extreme_at
@@ -170,22 +169,6 @@ sample-between : (law : Meaning) (case : Case) (at : ProbeAt) (step : ℕ) → s
 unfolding sample
 sample-between law case at step h = rw (ne_eqb (step % case.every) 0 h) refl
 
--- a probe has a line of samples
-line-by : (o : Option ℕ) → o ≢ None → (line : ℕ) × (o ≡ Some line)
-line-by None h = absurd (h refl)
-line-by (Some line) h = (line, refl)
-
-kept-by : (law : Meaning) (fold : Fold) (probe step : ℕ) (at : ProbeAt) → HasRows law fold → probe < length (probes_of fold) → get_or (probes_of fold) probe 0 ≡ number_of law.mesh at → IsOn law.mesh at
-    → step ≤ steps_of fold → step % every_of fold ≡ 0 → sample_kept fold probe step ≡ taken_at (row law step) at
-kept-by law fold probe step at r l e h le m =
-    let k = get_or fold.probes.items probe 0 in
-    let a = line-by (get_or fold.marks.items (cell_of fold.spans.items fold.bases.items k) None) (fold.marked.each probe l) in
-    sym (kept-line fold probe step a.0 m le a.1)
-    ∙ sampled fold (rows_noted law) probe step a.0 r.stands l le m a.1
-    ∙ sampled-then (rows_noted law) fold.every fold.steps k step m le
-    ∙ ap (λ i. column (rows_noted law) i step) e
-    ∙ column-is law step at r.numbered h
-
 probe-there : (law : Meaning) (case : Case) (fold : Fold) (j : ℕ) → IsFoldOfCase law case fold → j < length case.probes → j < length (probes_of fold)
 probe-there law case fold j c h = omega (arith, ap length c.probes, length-map case.probes (λ (probe : Probe). number_of law.mesh probe.at))
 
@@ -196,12 +179,16 @@ probe-number law case fold j c h =
 pub sample-is : (law : Meaning) (case : Case) (fold : Fold) (j step : ℕ) → HasRows law fold → IsFoldOfCase law case fold → j < length case.probes → sample_kept fold j step ≡ sample law case (probe_at case j).at step
 sample-is law case fold j step r c h =
     let at = (probe_at case j).at in
+    let k = get_or (probes_of fold) j 0 in
+    let there = probe-there law case fold j c h in
+    let e = probe-number law case fold j c h in
     let s = c.steps in
     let v = c.every in
     elim (or-over step (steps_of fold)) [
       | inl le ↦ elim (decided (step % every_of fold) 0) [
         | inl m ↦
-            kept-by law fold j step at r (probe-there law case fold j c h) (probe-number law case fold j c h) (c.on j h) le m
+            r.stands.samples j step there ∙ sampled-then (rows_noted law) (every_of fold) (steps_of fold) k step m le
+            ∙ ap (λ i. column (rows_noted law) i step) e ∙ column-is law step at r.numbered (c.on j h)
             ∙ sym (sample-then law case at step (subst (λ n. step % n ≡ 0) v m) (subst (λ n. step ≤ n) s le))
         | inr m ↦ sym (kept-between fold j step m) ∙ sample-between law case at step (subst (λ n. step % n ≢ 0) v m)
       ]

@@ -7,7 +7,7 @@ use Rattle.std.proofs.Math.Nat.{div-mul-le_self}
 use Rattle.case_model.specs.Samples.{Sample}
 use Rattle.envelope.specs.Cells.{is_within, cell_of, IsRising, IsLaidOut}
 use Rattle.envelope.specs.Extremes.{either, HasExtreme, unmet}
-use Rattle.envelope.specs.Folds.{IsStanding}
+use Rattle.envelope.specs.Layout.{IsStanding}
 use Rattle.envelope.specs.Lines.{told, HasSamples, IsMarked}
 use Rattle.envelope.specs.declared.extremes.Extreme.{Extreme}
 use Rattle.envelope.specs.declared.folds.Fold.{Fold}

@@ -1,8 +1,8 @@
--- What a fold keeps, number by number, as its readers answer it.
+-- What a fold tells, number by number, as its readers answer it.
 use Rattle.std.specs.Prelude.{ℕ, ◌/◌, ◌%◌, ◌==◌, ◌&&◌, nat_le, if◌then◌else◌, List, [], slice_index, slice_index_or, Option, Some, None}
 use Rattle.case_model.specs.Samples.{Sample}
 use Rattle.envelope.specs.Extremes.{unmet}
-use Rattle.envelope.specs.Folds.{probes_of, steps_of, every_of, cell_in, line_in}
+use Rattle.envelope.specs.Layout.{cell_in, line_in}
 use Rattle.envelope.specs.Lines.{told}
 use Rattle.envelope.specs.declared.extremes.Extreme.{Extreme}
 use Rattle.envelope.specs.declared.folds.Fold.{Fold}
@@ -20,6 +20,11 @@ extreme_kept fold place = slice_index_or fold.cells.items (cell_in fold place) u
 -- the sample of a probe at a step
 unfoldable pub sample_kept : Fold → ℕ → ℕ → Option Sample
 sample_kept fold probe step =
-    if (step % every_of fold == 0) && nat_le step (steps_of fold)
-    then told (entry_of fold.samples.items (line_in fold (slice_index (probes_of fold) probe)) (step / every_of fold))
+    if (step % fold.every == 0) && nat_le step fold.steps
+    then told (entry_of fold.samples.items (line_in fold (slice_index fold.probes.items probe))
+    (step / fold.every))
     else None
+
+-- the first fault
+unfoldable pub fault_kept : Fold → Option (ℕ × ℕ)
+fault_kept fold = fold.fault

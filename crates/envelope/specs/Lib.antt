@@ -1,9 +1,11 @@
 pub mod CellLaws
 pub mod Cells
+pub mod Changes
 pub mod Extremes
 pub mod Faults
 pub mod Folds
 pub mod Kept
+pub mod Layout
 pub mod Lines
 pub mod Notings
 pub mod RowFolds

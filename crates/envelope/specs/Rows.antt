@@ -1,5 +1,5 @@
--- The rows of a law as what a fold is told: of each step the state of each node and the point of each
--- place, by place number.
+-- The rows of a law as what a fold is told: of each step the state of each node and the point of
+-- each place, by place number.
 use Rattle.std.specs.Prelude.{ℕ, Some}
 use Rattle.case_model.specs.declared.cases.ProbeAt.{ProbeAt}
 use Rattle.case_model.specs.declared.cases.ProbeAt.TheVariants.{OnPipe, OnNode}

@@ -1,3 +1,4 @@
+//! The cell of each place that lies in the spans of a fold.
 ghost use Rattle.std.specs.Prelude.{◌≡◌, ℕ, ◌+◌, ◌<◌, ◌≤◌, true, length, slice_index, IfOk};
 ghost use Rattle.envelope.specs.Cells.{IsRising, IsLaidOut, is_within, span_of, IsPlaced, cell_of as cell_is};
 

@@ -1,3 +1,4 @@
+//! The envelope of one place, and the cells that keep one each.
 ghost use Rattle.std.specs.Prelude.{◌≡◌, ◌≢◌, ℕ, ◌<◌, ◌≤◌, ◌≤ℤ◌, ◌<ℤ◌, true, false, Option, Some, None, length, replicate, slice_index_or, IfOk};
 ghost use Rattle.case_model.specs.Samples.{Sample as Taken};
 ghost use Rattle.envelope.specs.Extremes.{AgreeAlong, either, unmet, HasExtreme};
@@ -40,7 +41,10 @@ impl Extreme {
 
     /// The extreme of a place of which one sample is taken.
     pub(crate) fn of_one(step: u64, sample: &Sample) -> Extreme
-        ensures { (f : ℕ → Option Taken) (last : ℕ) → step ≤ last → f step ≡ Some (record { h = sample.now.h; qu = sample.now.qu; qd = sample.now.qd; v = sample.now.v }) → ((s : ℕ) → s ≢ step → f s ≡ None) → HasExtreme f last result }
+        ensures { (f : ℕ → Option Taken) (last : ℕ) → step ≤ last →
+            f step ≡ Some
+            (record { h = sample.now.h; qu = sample.now.qu; qd = sample.now.qd; v = sample.now.v })
+            → ((s : ℕ) → s ≢ step → f s ≡ None) → HasExtreme f last result }
     {
         Extreme {
             max: sample.h,
@@ -54,7 +58,9 @@ impl Extreme {
 
     /// The extreme of a place of which is taken what these two stand for.
     pub(crate) fn joined(&self, other: &Extreme) -> Extreme
-        ensures { (f g : ℕ → Option Taken) (last : ℕ) → AgreeAlong f g → HasExtreme f last self.now → HasExtreme g last other.now → HasExtreme (either f g) last result }
+        ensures { (f g : ℕ → Option Taken) (last : ℕ) → AgreeAlong f g →
+            HasExtreme f last self.now → HasExtreme g last other.now →
+            HasExtreme (either f g) last result }
     {
         if other.is_unmet() {
             return *self;
@@ -77,7 +83,9 @@ impl Extreme {
 
     /// Whether what another stands for changes nothing here.
     fn covers(&self, other: &Extreme) -> bool
-        ensures { result ≡ true → (f g : ℕ → Option Taken) (last : ℕ) → AgreeAlong f g → HasExtreme f last self.now → HasExtreme g last other.now → HasExtreme (either f g) last self.now }
+        ensures { result ≡ true → (f g : ℕ → Option Taken) (last : ℕ) → AgreeAlong f g →
+            HasExtreme f last self.now → HasExtreme g last other.now →
+            HasExtreme (either f g) last self.now }
     {
         if other.is_unmet() {
             return false;
@@ -136,11 +144,16 @@ pub(crate) fn blank_cells(alloc: Global, count: usize) -> Result<Vec<Extreme>, A
     vec![in alloc; Extreme::unmet(); count]
 }
 
-/// Joins what another extreme stands for to that of a cell. Mostly nothing changes, and nothing is written.
+/// Joins what another extreme stands for to that of a cell. Mostly nothing changes, and nothing is
+/// written.
 pub(crate) fn join_cell(cells: &mut Vec<Extreme>, cell: usize, other: &Extreme)
     requires { cell < length cells.old.items }
-    ensures here { (f g : ℕ → Option Taken) (last : ℕ) → AgreeAlong f g → HasExtreme f last (slice_index_or cells.old.items cell unmet) → HasExtreme g last other.now → HasExtreme (either f g) last (slice_index_or cells.new.items cell unmet) }
-    ensures others { (c : ℕ) → c ≢ cell → slice_index_or cells.new.items c unmet ≡ slice_index_or cells.old.items c unmet }
+    ensures here { (f g : ℕ → Option Taken) (last : ℕ) → AgreeAlong f g →
+        HasExtreme f last (slice_index_or cells.old.items cell unmet) →
+        HasExtreme g last other.now →
+        HasExtreme (either f g) last (slice_index_or cells.new.items cell unmet) }
+    ensures others { (c : ℕ) → c ≢ cell →
+        slice_index_or cells.new.items c unmet ≡ slice_index_or cells.old.items c unmet }
     ensures count { length cells.new.items ≡ length cells.old.items }
 {
     if !cells[cell].covers(other) {

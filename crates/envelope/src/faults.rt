@@ -1,10 +1,13 @@
+//! The earlier of two faults.
 ghost use Rattle.std.specs.Prelude.{◌≡◌, ◌⊎◌, ℕ, List};
 ghost use Rattle.envelope.specs.Faults.{HasFault, IsEarlier};
 ghost use Rattle.envelope.specs.Notings.{Noted, Agree, union};
 
 /// The earlier of two faults, by step and then by place.
 pub(crate) fn earlier(a: Option<(u64, u64)>, b: Option<(u64, u64)>) -> Option<(u64, u64)>
-    ensures { (spans : List (ℕ × ℕ)) (last : ℕ) (map more : Noted) → Agree map more → HasFault spans last map a → HasFault spans last more b → HasFault spans last (union map more) result }
+    ensures { (spans : List (ℕ × ℕ)) (last : ℕ) (map more : Noted) → Agree map more →
+        HasFault spans last map a → HasFault spans last more b →
+        HasFault spans last (union map more) result }
 {
     match (a, b) {
         (Some(a), Some(b)) => Some(earlier_pair(a, b)),

@@ -1,3 +1,4 @@
+//! A fold: what is kept of the places of some spans.
 ghost use Rattle.std.specs.Prelude.{◌≡◌, ℕ, ◌+◌, ◌/◌, ◌≤◌, length, slice_index};
 ghost use Rattle.envelope.specs.Cells.{IsRising, IsLaidOut};
 ghost use Rattle.envelope.specs.Lines.{AreWithin, IsMarked, AreLines};
@@ -40,8 +41,10 @@ impl Fold {
     ghost use Rattle.envelope.specs.Cells.{is_within, first_of_span, end_of_span, AreInOneSpan};
     ghost use Rattle.envelope.specs.Extremes.{IsEnvelopeOf};
     ghost use Rattle.envelope.specs.Faults.{HasFault};
-    ghost use Rattle.envelope.specs.Folds.{spans_of, probes_of, steps_of, every_of, Stands, IsFoldOf, IsSameFold, IsKeptAt, IsSameLayout, AreSameCells, AreJoined, IsMergeable, cell_in, count_of_cells};
-    ghost use Rattle.envelope.specs.Kept.{extreme_kept, sample_kept};
+    ghost use Rattle.envelope.specs.Changes.{IsKeptAt, IsSameLayout, AreSameCells, AreJoined, IsMergeable};
+    ghost use Rattle.envelope.specs.Folds.{spans_of, probes_of, steps_of, every_of, Stands, IsFoldOf, IsSameFold};
+    ghost use Rattle.envelope.specs.Kept.{extreme_kept, fault_kept, sample_kept};
+    ghost use Rattle.envelope.specs.Layout.{IsHeld, cell_in, count_of_cells};
     ghost use Rattle.envelope.specs.Lines.{told};
     ghost use Rattle.envelope.specs.Notings.{Noting, Noted, nothing, only, noted, line_noted, union, Agree, IsInside, column, sample_over, taken, is_bad_noting};
     ghost use Rattle.envelope.specs.Notings.Noting.{OfPoint, OfNode};
@@ -89,7 +92,9 @@ impl Fold {
     /// Takes in a point of a place of a pipe. A step past the last changes nothing.
     pub fn note(&mut self, step: u64, place: u64, point: &Point)
         requires { is_within (spans_of self.old) place ≡ true }
-        ensures stands { (map : Noted) → Stands self.old map → Agree map (only step place (OfPoint point.now)) → Stands self.new (noted map step place (OfPoint point.now)) }
+        ensures stands { (map : Noted) → Stands self.old map →
+            Agree map (only step place (OfPoint point.now)) →
+            Stands self.new (noted map step place (OfPoint point.now)) }
         ensures past { steps_of self.old < step → self.new ≡ self.old }
         ensures same { IsSameFold self.old self.new }
     {
@@ -107,11 +112,13 @@ impl Fold {
         }
     }
 
-    /// Takes in the points of places that follow one another, of which `first` is the first. A step past
-    /// the last changes nothing.
+    /// Takes in the points of places that follow one another, of which `first` is the first. A step
+    /// past the last changes nothing.
     pub fn note_line(&mut self, step: u64, first: u64, points: &[Point])
         requires { AreInOneSpan (spans_of self.old) first (length points.now) }
-        ensures stands { (map : Noted) → Stands self.old map → Agree map (line_noted step first points.now) → Stands self.new (union map (line_noted step first points.now)) }
+        ensures stands { (map : Noted) → Stands self.old map →
+            Agree map (line_noted step first points.now) →
+            Stands self.new (union map (line_noted step first points.now)) }
         ensures past { steps_of self.old < step → self.new ≡ self.old }
         ensures same { IsSameFold self.old self.new }
     {
@@ -123,7 +130,9 @@ impl Fold {
     /// Takes in a node's state. A step past the last changes nothing.
     pub fn note_node(&mut self, step: u64, place: u64, state: &NodeState)
         requires { is_within (spans_of self.old) place ≡ true }
-        ensures stands { (map : Noted) → Stands self.old map → Agree map (only step place (OfNode state.now)) → Stands self.new (noted map step place (OfNode state.now)) }
+        ensures stands { (map : Noted) → Stands self.old map →
+            Agree map (only step place (OfNode state.now)) →
+            Stands self.new (noted map step place (OfNode state.now)) }
         ensures past { steps_of self.old < step → self.new ≡ self.old }
         ensures same { IsSameFold self.old self.new }
     {
@@ -143,11 +152,14 @@ impl Fold {
 
     /// Takes in what another fold kept of places that are this fold's too.
     pub fn merge(&mut self, other: &Fold)
-        requires spans { (k : ℕ) → is_within (spans_of other.now) k ≡ true → is_within (spans_of self.old) k ≡ true }
-        requires probes { probes_of other.now ≡ filter (is_within (spans_of other.now)) (probes_of self.old) }
+        requires spans { (k : ℕ) → is_within (spans_of other.now) k ≡ true →
+            is_within (spans_of self.old) k ≡ true }
+        requires probes { probes_of other.now
+            ≡ filter (is_within (spans_of other.now)) (probes_of self.old) }
         requires steps { steps_of other.now ≡ steps_of self.old }
         requires every { every_of other.now ≡ every_of self.old }
-        ensures stands { (map more : Noted) → Stands self.old map → Stands other.now more → Agree map more → IsInside (spans_of other.now) more → Stands self.new (union map more) }
+        ensures stands { (map more : Noted) → Stands self.old map → Stands other.now more →
+            Agree map more → IsInside (spans_of other.now) more → Stands self.new (union map more) }
         ensures same { IsSameFold self.old self.new }
     {
         for index in 0..other.spans.len() {
@@ -157,8 +169,11 @@ impl Fold {
     }
 
     /// The first fault: the least step, and of it the least place, at which Bad was noted.
+    #[tactic(auto, unfolding(crate::specs::Kept::fault_kept))]
     pub fn fault(&self) -> Option<(u64, u64)>
-        ensures { (map : Noted) → Stands self.now map → HasFault (spans_of self.now) (steps_of self.now) map result }
+        ensures kept { result ≡ fault_kept self.now }
+        ensures first { (map : Noted) → Stands self.now map →
+            HasFault (spans_of self.now) (steps_of self.now) map result }
     {
         self.fault
     }
@@ -168,7 +183,9 @@ impl Fold {
     pub fn extreme(&self, place: u64) -> Extreme
         requires { is_within (spans_of self.now) place ≡ true }
         ensures kept { result ≡ extreme_kept self.now place }
-        ensures envelope { (map : Noted) (step : ℕ) → Stands self.now map → step ≤ steps_of self.now → taken (map step place) ≢ None → IsEnvelopeOf (column map place) (steps_of self.now) result }
+        ensures envelope { (map : Noted) (step : ℕ) → Stands self.now map →
+            step ≤ steps_of self.now → taken (map step place) ≢ None →
+            IsEnvelopeOf (column map place) (steps_of self.now) result }
     {
         let cell = find_cell(&self.spans, &self.bases, place);
         self.cells[cell]
@@ -180,7 +197,10 @@ impl Fold {
     pub fn sample(&self, probe: u32, step: u64) -> Option<Sample>
         requires { probe < length (probes_of self.now) }
         ensures kept { told result ≡ sample_kept self.now probe step }
-        ensures sampled { (map : Noted) → Stands self.now map → told result ≡ sample_over map (every_of self.now) (steps_of self.now) (slice_index (probes_of self.now) probe) step }
+        ensures sampled { (map : Noted) → Stands self.now map →
+            told result
+            ≡ sample_over map (every_of self.now) (steps_of self.now)
+            (slice_index (probes_of self.now) probe) step }
     {
         if step > self.steps || step % self.every != 0 {
             return None;
@@ -195,12 +215,15 @@ impl Fold {
         }
     }
 
-    /// Takes in a line that has a point, at a step up to the last. The cells of a line follow one another.
+    /// Takes in a line that has a point, at a step up to the last. The cells of a line follow one
+    /// another.
     fn note_within(&mut self, step: u64, first: u64, points: &[Point])
         requires step { step ≤ steps_of self.old }
         requires some { 0 < length points.now }
         requires span { AreInOneSpan (spans_of self.old) first (length points.now) }
-        ensures stands { (map : Noted) → Stands self.old map → Agree map (line_noted step first points.now) → Stands self.new (union map (line_noted step first points.now)) }
+        ensures stands { (map : Noted) → IsHeld self.old map →
+            Agree map (line_noted step first points.now) →
+            IsHeld self.new (union map (line_noted step first points.now)) }
         ensures same { IsSameFold self.old self.new }
     {
         let cell = self.cell(first);
@@ -215,7 +238,9 @@ impl Fold {
         requires place { is_within (spans_of self.old) place ≡ true }
         requires cell { cell ≡ cell_in self.old place }
         requires inside { cell < count_of_cells self.old }
-        ensures stands { (map : Noted) → Stands self.old map → Agree map (only step place (OfPoint point.now)) → Stands self.new (noted map step place (OfPoint point.now)) }
+        ensures stands { (map : Noted) → IsHeld self.old map →
+            Agree map (only step place (OfPoint point.now)) →
+            IsHeld self.new (noted map step place (OfPoint point.now)) }
         ensures cells { AreSameCells self.old self.new }
     {
         match point {
@@ -234,7 +259,10 @@ impl Fold {
 
     fn keep(&mut self, step: u64, place: u64, sample: &Sample)
         requires { is_within (spans_of self.old) place ≡ true }
-        ensures stands { (map : Noted) (noting : Noting) → taken (Some noting) ≡ told (Some sample.now) → is_bad_noting (Some noting) ≡ false → Stands self.old map → Agree map (only step place noting) → Stands self.new (noted map step place noting) }
+        ensures stands { (map : Noted) (noting : Noting) →
+            taken (Some noting) ≡ told (Some sample.now) → is_bad_noting (Some noting) ≡ false →
+            IsHeld self.old map → Agree map (only step place noting) →
+            IsHeld self.new (noted map step place noting) }
         ensures past { steps_of self.old < step → self.new ≡ self.old }
         ensures same { IsSameFold self.old self.new }
     {
@@ -256,7 +284,10 @@ impl Fold {
     fn keep_within(&mut self, cell: usize, step: u64, sample: &Sample)
         requires cell { cell < count_of_cells self.old }
         requires step { step ≤ steps_of self.old }
-        ensures kept { (place : ℕ) → is_within (spans_of self.old) place ≡ true → cell ≡ cell_in self.old place → IsKeptAt self.old self.new step place (record { h = sample.now.h; qu = sample.now.qu; qd = sample.now.qd; v = sample.now.v }) }
+        ensures kept { (place : ℕ) → is_within (spans_of self.old) place ≡ true →
+            cell ≡ cell_in self.old place →
+            IsKeptAt self.old self.new step place
+            (record { h = sample.now.h; qu = sample.now.qu; qd = sample.now.qd; v = sample.now.v }) }
         ensures layout { IsSameLayout self.old self.new }
     {
         join_cell(&mut self.cells, cell, &Extreme::of_one(step, sample));
@@ -267,7 +298,9 @@ impl Fold {
 
     fn fail(&mut self, step: u64, place: u64)
         requires { is_within (spans_of self.old) place ≡ true }
-        ensures stands { (map : Noted) (noting : Noting) → taken (Some noting) ≡ None → is_bad_noting (Some noting) ≡ true → Stands self.old map → Agree map (only step place noting) → Stands self.new (noted map step place noting) }
+        ensures stands { (map : Noted) (noting : Noting) → taken (Some noting) ≡ None →
+            is_bad_noting (Some noting) ≡ true → IsHeld self.old map →
+            Agree map (only step place noting) → IsHeld self.new (noted map step place noting) }
         ensures past { steps_of self.old < step → self.new ≡ self.old }
         ensures cells { AreSameCells self.old self.new }
     {
@@ -281,7 +314,8 @@ impl Fold {
     fn merge_span(&mut self, other: &Fold, index: usize)
         requires mergeable { IsMergeable self.old other.now }
         requires there { index < length (spans_of other.now) }
-        ensures { AreJoined self.old other.now self.new (first_of_span (spans_of other.now) index) (end_of_span (spans_of other.now) index) }
+        ensures { AreJoined self.old other.now self.new (first_of_span (spans_of other.now) index)
+            (end_of_span (spans_of other.now) index) }
     {
         let (first, count) = other.spans[index];
         for place in first..first + count {

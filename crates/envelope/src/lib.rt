@@ -1,4 +1,5 @@
-//! Folds: greatest and least heads and greatest volumes of places, samples of probes, and the first Bad point.
+//! Folds: greatest and least heads and greatest volumes of places, samples of probes, and the first
+//! Bad point.
 #![tactic(auto)]
 
 mod cells;
@@ -14,6 +15,3 @@ pub use extremes::Extreme;
 pub use folds::Fold;
 pub use rows::{extremes_are_exact, folds_tell_rows, numbers_tell_places, stands_for_equal_maps};
 pub use samples::Sample;
-
-#[cfg(test)]
-mod tests;

@@ -1,3 +1,4 @@
+//! The samples of probes, a line of them for each.
 ghost use Rattle.std.specs.Prelude.{◌≡◌, ◌≢◌, ℕ, ◌+◌, ◌*◌, ◌/◌, ◌<◌, ◌≤◌, List as Items, [], length, replicate, slice_index, slice_index_or, slice_set, Option, Some, None, IfOk};
 ghost use Rattle.case_model.specs.Samples.{Sample as Taken};
 ghost use Rattle.envelope.specs.Cells.{IsRising, IsLaidOut};
@@ -20,8 +21,10 @@ pub(crate) fn mark(
     requires laid_out { IsLaidOut spans.now bases.now }
     requires within { AreWithin spans.now probes.now }
     requires few { length probes.now ≤ 4_000_000 }
-    ensures own { IfOk result (λ marks. IsMarked spans.now bases.now probes.now (length probes.now) marks.items) }
-    ensures each { IfOk result (λ marks. length marks.items ≡ slice_index bases.now (length spans.now)) }
+    ensures own { IfOk result
+        (λ marks. IsMarked spans.now bases.now probes.now (length probes.now) marks.items) }
+    ensures each { IfOk result (λ marks. length marks.items
+        ≡ slice_index bases.now (length spans.now)) }
 {
     let mut marks = vec![in alloc; None; bases[spans.len()]]?;
     for (probe, place) in probes.iter().enumerate() {
@@ -31,7 +34,8 @@ pub(crate) fn mark(
     Ok(marks)
 }
 
-/// A line without samples for each of `count` probes, one for each of the steps 0, every, 2*every .. up to the last.
+/// A line without samples for each of `count` probes, one for each of the steps 0, every, 2*every
+/// .. up to the last.
 pub(crate) fn blank_lines(
     alloc: Global,
     count: usize,
@@ -68,10 +72,16 @@ pub(crate) fn keep_sample(
     requires some { 1 ≤ every }
     requires line { line < length samples.old.items }
     requires inside { step / every < length (slice_index_or samples.old.items line []) }
-    ensures here { (f g : ℕ → Option Taken) (last : ℕ) → AgreeAlong f g → g step ≡ told (Some sample.now) → ((s : ℕ) → s ≢ step → g s ≡ None) → HasSamples f last every (slice_index_or samples.old.items line []) → HasSamples (either f g) last every (slice_index_or samples.new.items line []) }
-    ensures others { (l : ℕ) → l ≢ line → slice_index_or samples.new.items l [] ≡ slice_index_or samples.old.items l [] }
+    ensures here { (f g : ℕ → Option Taken) (last : ℕ) → AgreeAlong f g →
+        g step ≡ told (Some sample.now) → ((s : ℕ) → s ≢ step → g s ≡ None) →
+        HasSamples f last every (slice_index_or samples.old.items line []) →
+        HasSamples (either f g) last every (slice_index_or samples.new.items line []) }
+    ensures others { (l : ℕ) → l ≢ line →
+        slice_index_or samples.new.items l [] ≡ slice_index_or samples.old.items l [] }
     ensures count { length samples.new.items ≡ length samples.old.items }
-    ensures widths { (l : ℕ) → length (slice_index_or samples.new.items l []) ≡ length (slice_index_or samples.old.items l []) }
+    ensures widths { (l : ℕ) →
+        length (slice_index_or samples.new.items l [])
+        ≡ length (slice_index_or samples.old.items l []) }
 {
     if step % every == 0 {
         put(&mut samples[line as usize], (step / every) as usize, sample);
@@ -102,17 +112,25 @@ pub(crate) fn join_line(
 )
     requires line { line < length samples.old.items }
     requires same { length other.now ≡ length (slice_index_or samples.old.items line []) }
-    ensures here { (f g : ℕ → Option Taken) (last every : ℕ) → HasSamples f last every (slice_index_or samples.old.items line []) → HasSamples g last every other.now → HasSamples (either f g) last every (slice_index_or samples.new.items line []) }
-    ensures others { (l : ℕ) → l ≢ line → slice_index_or samples.new.items l [] ≡ slice_index_or samples.old.items l [] }
+    ensures here { (f g : ℕ → Option Taken) (last every : ℕ) →
+        HasSamples f last every (slice_index_or samples.old.items line []) →
+        HasSamples g last every other.now →
+        HasSamples (either f g) last every (slice_index_or samples.new.items line []) }
+    ensures others { (l : ℕ) → l ≢ line →
+        slice_index_or samples.new.items l [] ≡ slice_index_or samples.old.items l [] }
     ensures count { length samples.new.items ≡ length samples.old.items }
-    ensures widths { (l : ℕ) → length (slice_index_or samples.new.items l []) ≡ length (slice_index_or samples.old.items l []) }
+    ensures widths { (l : ℕ) →
+        length (slice_index_or samples.new.items l [])
+        ≡ length (slice_index_or samples.old.items l []) }
 {
     fill_gaps(samples[line as usize].as_mut_slice(), other);
 }
 
 fn fill_gaps(line: &mut [Option<Sample>], other: &[Option<Sample>])
     requires { length other.now ≡ length line.old }
-    ensures { (j : ℕ) → j < length line.old → told (slice_index_or line.new j None) ≡ first_of (told (slice_index_or line.old j None)) (told (slice_index_or other.now j None)) }
+    ensures { (j : ℕ) → j < length line.old →
+        told (slice_index_or line.new j None)
+        ≡ first_of (told (slice_index_or line.old j None)) (told (slice_index_or other.now j None)) }
 {
     for (index, sample) in other.iter().enumerate() {
         if line[index].is_none() {

@@ -1,3 +1,4 @@
+//! The greater and the lesser of two values with their steps.
 ghost use Rattle.std.specs.Prelude.{◌≡◌, ℕ, ℤ, ◌≤ℤ◌, true, Option};
 ghost use Rattle.case_model.specs.Samples.{IsGreatest, IsSmallest};
 ghost use Rattle.envelope.specs.Extremes.{AgreeAlong, either};
@@ -13,7 +14,8 @@ pub(crate) struct Peak {
 
 /// The greater value, or of two equal ones the earlier.
 pub(crate) fn greater(a: Peak, b: Peak) -> Peak
-    ensures { (f g : ℕ → Option ℤ) (last : ℕ) → AgreeAlong f g → IsGreatest f last a.value a.step → IsGreatest g last b.value b.step → IsGreatest (either f g) last result.value result.step }
+    ensures { (f g : ℕ → Option ℤ) (last : ℕ) → AgreeAlong f g → IsGreatest f last a.value a.step →
+        IsGreatest g last b.value b.step → IsGreatest (either f g) last result.value result.step }
 {
     if b.value < a.value {
         return a;
@@ -26,7 +28,8 @@ pub(crate) fn greater(a: Peak, b: Peak) -> Peak
 
 /// The lesser value, or of two equal ones the earlier.
 pub(crate) fn lesser(a: Peak, b: Peak) -> Peak
-    ensures { (f g : ℕ → Option ℤ) (last : ℕ) → AgreeAlong f g → IsSmallest f last a.value a.step → IsSmallest g last b.value b.step → IsSmallest (either f g) last result.value result.step }
+    ensures { (f g : ℕ → Option ℤ) (last : ℕ) → AgreeAlong f g → IsSmallest f last a.value a.step →
+        IsSmallest g last b.value b.step → IsSmallest (either f g) last result.value result.step }
 {
     if a.value < b.value {
         return a;
@@ -40,7 +43,9 @@ pub(crate) fn lesser(a: Peak, b: Peak) -> Peak
 /// Whether the first is the greater value, or of two equal ones the earlier.
 pub(crate) fn is_over(a: Peak, b: Peak) -> bool
     ensures over { result ≡ true → b.value ≤ℤ a.value }
-    ensures taken { result ≡ true → (f g : ℕ → Option ℤ) (last : ℕ) → AgreeAlong f g → IsGreatest f last a.value a.step → IsGreatest g last b.value b.step → IsGreatest (either f g) last a.value a.step }
+    ensures taken { result ≡ true → (f g : ℕ → Option ℤ) (last : ℕ) → AgreeAlong f g →
+        IsGreatest f last a.value a.step → IsGreatest g last b.value b.step →
+        IsGreatest (either f g) last a.value a.step }
 {
     if a.value == b.value {
         return a.step <= b.step;
@@ -51,7 +56,9 @@ pub(crate) fn is_over(a: Peak, b: Peak) -> bool
 /// Whether the first is the lesser value, or of two equal ones the earlier.
 pub(crate) fn is_under(a: Peak, b: Peak) -> bool
     ensures under { result ≡ true → a.value ≤ℤ b.value }
-    ensures taken { result ≡ true → (f g : ℕ → Option ℤ) (last : ℕ) → AgreeAlong f g → IsSmallest f last a.value a.step → IsSmallest g last b.value b.step → IsSmallest (either f g) last a.value a.step }
+    ensures taken { result ≡ true → (f g : ℕ → Option ℤ) (last : ℕ) → AgreeAlong f g →
+        IsSmallest f last a.value a.step → IsSmallest g last b.value b.step →
+        IsSmallest (either f g) last a.value a.step }
 {
     if a.value == b.value {
         return a.step <= b.step;

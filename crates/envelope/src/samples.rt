@@ -1,4 +1,6 @@
-/// What is kept of a place at one step. Of a node the upstream flow is 0 and the downstream one its growth.
+//! What is kept of a place at one step.
+/// What is kept of a place at one step. Of a node the upstream flow is 0 and the downstream one its
+/// growth.
 #[derive(Clone, Copy, Debug, PartialEq, Eq)]
 pub struct Sample {
     /// Head, in 1e-6 m.

@@ -1,5 +1,6 @@
 -- Fields that break no rule: numbers within the limits of their quantity, and references to tables of their kind.
 use Rattle.std.proofs.Common.{◌≡◌, ℕ, ◌&&◌, not, Bool, true, false, cond, ℤ, List}
+use Rattle.std.proofs.lemmas.Bool.{not-false}
 use Rattle.std.specs.List.{list_any}
 use Rattle.case_model.specs.Sets.{IsEmpty}
 use Rattle.case_model.specs.Limits.{IsWithin, IsTableOf, IsValue}
@@ -15,7 +16,7 @@ use Rattle.case_rules.specs.declared.parts.Part.TheVariants.{ATable}
 use Rattle.case_rules.specs.Said.{defines_part}
 use Rattle.case_rules.specs.Among.{is_unknown, line_rules}
 use Rattle.netfile.specs.Built.{table_index, tables_of, value_said}
-use Rattle.netfile.proofs.FieldLimits.{not_not, in_limits}
+use Rattle.netfile.proofs.FieldLimits.{in_limits}
 use Rattle.netfile.proofs.TableNames.{table_found}
 
 -- what holds of a field that breaks no rule
@@ -28,7 +29,7 @@ unfolding breaks_field
 number_kept lines quantity text k = in_limits quantity text (k.alone 4) (k.alone 5)
 
 known_table : (lines : List (List (List ℕ))) → IsEmpty (line_rules lines) → (kind : TableKind) (name : List ℕ) → not (list_any (defines_part (ATable kind) name) lines) ≡ false → IsTableOf kind (tables_of lines) (table_index (tables_of lines) name)
-known_table lines empty kind name h = table_found lines empty name kind (not_not (list_any (defines_part (ATable kind) name) lines) h)
+known_table lines empty kind name h = table_found lines empty name kind (not-false (list_any (defines_part (ATable kind) name) lines) h)
 
 pub reference_kept : (lines : List (List (List ℕ))) → IsEmpty (line_rules lines) → (kind : TableKind) (text : List ℕ) → IsFieldKept lines (Reference kind) text → IsTableOf kind (tables_of lines) (table_index (tables_of lines) (referred text))
 unfolding is_unknown

@@ -1,7 +1,8 @@
 -- The rules stand on lines of the text or on line 0 or 1, and have the numbers that the search goes through.
 use Rattle.std.proofs.Common.{ℕ, zero, suc, ◌+◌, ◌-◌, ◌<◌, ◌≤◌, ◌≡◌, inl, inr, ◌==◌, ◌&&◌, ◌||◌, not, nat_lt, nat_le, Bool, true, false, IsTrue, cond, ℤ, Option, Some, None, List, [], ◌∷◌, length, take, get_or, ap, sym, subst, refl, arith}
 use Rattle.std.specs.List.{list_any, list_all, range_with_len, cons_option}
-use Rattle.std.proofs.lemmas.Bool.{eqb-true}
+use Rattle.std.proofs.lemmas.Bool.{eqb-true, and_parts}
+use Rattle.std.specs.Option.{is_some}
 use Rattle.std.proofs.lemmas.Bool.Decides.{nat_tests}
 use Rattle.case_model.specs.declared.cases.Case.{Case}
 use Rattle.case_model.specs.declared.cases.Table.{Table}
@@ -10,23 +11,23 @@ use Rattle.case_model.specs.declared.cases.Pipe.{Pipe}
 use Rattle.case_model.specs.declared.cases.Probe.{Probe}
 use Rattle.case_model.specs.declared.meshes.End.{End}
 use Rattle.case_model.specs.Sets.{Rules, on_line, either, any_below}
-use Rattle.case_model.specs.SearchLaws.{IsOneOf, IsRising, IsBounded, AreBounded}
+use Rattle.case_model.specs.Bounds.{IsOneOf, IsRising, IsBounded, AreBounded}
 use Rattle.case_model.specs.Parts.{pipe_at, node_at, probe_at, no_pipe, no_node, no_probe}
 use Rattle.case_model.specs.Division.{is_count, is_adjusted, has_coefficients, node_ends}
 use Rattle.case_model.specs.Formulas.{reach_count}
-use Rattle.case_model.specs.Refusals.{ends_suit, exceeds, breaks_pipe, breaks_node, is_off, pipe_rules, node_rules, probe_rules, part_rules, is_too_large, size_rules}
+use Rattle.case_model.specs.Refusals.{most_ends, ends_suit, exceeds, breaks_pipe, breaks_node, is_off, pipe_rules, node_rules, probe_rules, part_rules, is_too_large, size_rules}
 use Rattle.case_lines.specs.declared.words.Directive.{Directive}
 use Rattle.case_lines.specs.declared.words.Directive.TheVariants.{OfSingle, OfTable, OfNode, OfPipe, OfProbe, OfWatch}
 use Rattle.case_lines.specs.declared.quantities.Quantity.{Quantity}
 use Rattle.case_lines.specs.declared.fields.FieldKind.{FieldKind}
-use Rattle.case_lines.specs.declared.fields.FieldKind.TheVariants.{NewName, NodeName, PipeName, Reference, Number, Value}
-use Rattle.case_lines.specs.Words.{directive_of}
+use Rattle.case_lines.specs.declared.fields.FieldKind.TheVariants.{NewName, NodeName, PipeName, Reference, Number, Value, FrictionWord}
+use Rattle.case_lines.specs.Words.{directive_of, directive_in, friction_of}
 use Rattle.case_lines.specs.Fields.{field, is_marked, field_kind, has_count, has_too_many, is_name, is_reference, is_heading}
 use Rattle.case_lines.specs.Tables.{is_disordered}
 use Rattle.case_lines.specs.Quantities.{limits, quantity_in, is_spelt, is_outside}
-use Rattle.case_lines.specs.Alone.{breaks_name, breaks_reference, breaks_number, breaks_field, breaks_fields, is_readable, breaks_counted, breaks_known, breaks_alone}
-use Rattle.case_rules.specs.Said.{line_at, said, is_definition, defines, is_single, is_single_of}
-use Rattle.case_rules.specs.Among.{uses_unknown, breaks_counted as breaks_others, breaks_among, breaks_line, line_rules}
+use Rattle.case_lines.specs.Alone.{breaks_name, breaks_reference, breaks_number, breaks_friction, breaks_field, breaks_fields, is_readable, breaks_counted, breaks_known, breaks_alone}
+use Rattle.case_rules.specs.Said.{line_at, version_of, said, is_definition, defines, is_single, is_single_of}
+use Rattle.case_rules.specs.Among.{directive_among, uses_unknown, breaks_counted as breaks_others, breaks_among, breaks_line, line_rules}
 use Rattle.case_rules.specs.Counts.{is_incomplete, is_too_large as is_too_many, count_rules}
 use Rattle.netfile.specs.Built.{node_by, node_said, nodes_from, nodes_of, pipe_of, pipe_by, pipe_said, pipes_from, pipes_of, probe_by, probe_said, probes_from, tables_of, case_of}
 use Rattle.netfile.specs.Verdict.{rule_numbers, all_passes}
@@ -44,25 +45,17 @@ abbrev is_rising : List ℕ → Bool
 is_rising [] = true
 is_rising (m ∷ ns) = list_all (nat_le m) ns && is_rising ns
 
-and_left : (a b : Bool) → (a && b) ≡ true → a ≡ true
-and_left true b h = refl
-and_left false b h = h
-
-and_right : (a b : Bool) → (a && b) ≡ true → b ≡ true
-and_right true b h = h
-and_right false b h = cc
-
 at_least : (m n k : ℕ) → nat_le m k ≡ true → n ≡ k → m ≤ n
 at_least m n k h e = grind (arith, nat_tests)
 
 above : (m n : ℕ) (ns : List ℕ) → list_all (nat_le m) ns ≡ true → IsOneOf ns n → m ≤ n
 above m n [] h i = absurd i
-above m n (k ∷ ns) h (inl e) = at_least m n k (and_left (nat_le m k) (list_all (nat_le m) ns) h) e
-above m n (k ∷ ns) h (inr i) = above m n ns (and_right (nat_le m k) (list_all (nat_le m) ns) h) i
+above m n (k ∷ ns) h (inl e) = at_least m n k (and_parts (nat_le m k) (list_all (nat_le m) ns) h).0 e
+above m n (k ∷ ns) h (inr i) = above m n ns (and_parts (nat_le m k) (list_all (nat_le m) ns) h).1 i
 
 rising_of : (ns : List ℕ) → is_rising ns ≡ true → IsRising ns
 rising_of [] h = tt
-rising_of (m ∷ ns) h = (λ n i. above m n ns (and_left (list_all (nat_le m) ns) (is_rising ns) h) i, rising_of ns (and_right (list_all (nat_le m) ns) (is_rising ns) h))
+rising_of (m ∷ ns) h = (λ n i. above m n ns (and_parts (list_all (nat_le m) ns) (is_rising ns) h).0 i, rising_of ns (and_parts (list_all (nat_le m) ns) (is_rising ns) h).1)
 
 pub rising : IsRising rule_numbers
 rising = rising_of rule_numbers refl
@@ -86,7 +79,7 @@ of_any n p [] f h = absurd (cc)
 of_any n p (k ∷ ks) f h = of_either n (p k) (list_any p ks) (f k) (of_any n p ks f) h
 
 of_one : (n k : ℕ) (a : Bool) → IsNumber k → IsTrue ((n == k) && a) → IsNumber n
-of_one n k a i h = subst IsNumber (sym (eqb-true n k (and_left (n == k) a h))) i
+of_one n k a i h = subst IsNumber (sym (eqb-true n k (and_parts (n == k) a h).0)) i
 
 of_two : (n j k : ℕ) (a b : Bool) → IsNumber j → IsNumber k → IsTrue (((n == j) && a) || ((n == k) && b)) → IsNumber n
 of_two n j k a b f g h = of_either n ((n == j) && a) ((n == k) && b) (of_one n j a f) (of_one n k b g) h
@@ -113,6 +106,10 @@ number_numbers : (q : Quantity) (text : List ℕ) (n : ℕ) → IsTrue (breaks_n
 unfolding breaks_number
 number_numbers q text n h = of_two n 4 5 (not (is_spelt (quantity_in q text))) (is_outside (limits q) (quantity_in q text)) (number 4 refl) (number 5 refl) h
 
+friction_numbers : (text : List ℕ) (n : ℕ) → IsTrue (breaks_friction text n) → IsNumber n
+unfolding breaks_friction
+friction_numbers text n h = of_one n 4 (not (is_some (friction_of text))) (number 4 refl) h
+
 field_numbers : (kind : FieldKind) (text : List ℕ) (n : ℕ) → IsTrue (breaks_field kind text n) → IsNumber n
 unfolding breaks_field
 field_numbers NewName text n h = name_numbers text n h
@@ -121,6 +118,7 @@ field_numbers PipeName text n h = name_numbers text n h
 field_numbers (Reference kind) text n h = reference_numbers text n h
 field_numbers (Number q) text n h = number_numbers q text n h
 field_numbers (Value q kind) text n h = of_if n (is_marked text) (breaks_reference text n) (breaks_number q text n) (reference_numbers text n) (number_numbers q text n) h
+field_numbers FrictionWord text n h = friction_numbers text n h
 
 fields_numbers : (d : Directive) (fields : List (List ℕ)) (m n : ℕ) → IsTrue (breaks_fields d fields m n) → IsNumber n
 unfolding breaks_fields
@@ -131,7 +129,7 @@ counted_numbers : (d : Directive) (fields : List (List ℕ)) (n : ℕ) → IsTru
 unfolding breaks_counted
 counted_numbers d fields n h =
     of_three n (breaks_fields d fields (length fields - 1) n) ((n == 10) && has_too_many d (length fields)) ((n == 14) && is_readable d fields && is_disordered d fields)
-    (fields_numbers d fields (length fields - 1) n) (of_one n 10 (has_too_many d (length fields)) (number 10 refl)) (λ b. of_one n 14 (is_readable d fields) (number 14 refl) (and_left ((n == 14) && is_readable d fields) (is_disordered d fields) b)) h
+    (fields_numbers d fields (length fields - 1) n) (of_one n 10 (has_too_many d (length fields)) (number 10 refl)) (λ b. of_one n 14 (is_readable d fields) (number 14 refl) (and_parts ((n == 14) && is_readable d fields) (is_disordered d fields) b).0) h
 
 known_numbers : (d : Option Directive) (fields : List (List ℕ)) (n : ℕ) → IsTrue (breaks_known d fields n) → IsNumber n
 known_numbers None fields n h = of_same n 2 (number 2 refl) h
@@ -140,11 +138,11 @@ known_numbers (Some d) fields n h = of_if n (has_count d (length fields)) (break
 no_number : (n : ℕ) → IsTrue false → IsNumber n
 no_number n h = absurd (cc)
 
-alone_numbers : (line : ℕ) (fields : List (List ℕ)) (n : ℕ) → IsTrue (breaks_alone line fields n) → IsNumber n
+alone_numbers : (version line : ℕ) (fields : List (List ℕ)) (n : ℕ) → IsTrue (breaks_alone version line fields n) → IsNumber n
 unfolding breaks_alone
-alone_numbers line fields n h =
-    of_if n (line == 1) ((n == 1) && not (is_heading fields)) (cond (length fields == 0) false (breaks_known (directive_of (field fields 0)) fields n)) (of_one n 1 (not (is_heading fields)) (number 1 refl))
-    (of_if n (length fields == 0) false (breaks_known (directive_of (field fields 0)) fields n) (no_number n) (known_numbers (directive_of (field fields 0)) fields n)) h
+alone_numbers version line fields n h =
+    of_if n (line == 1) ((n == 1) && not (is_heading fields)) (cond (length fields == 0) false (breaks_known (directive_in version (directive_of (field fields 0))) fields n)) (of_one n 1 (not (is_heading fields)) (number 1 refl))
+    (of_if n (length fields == 0) false (breaks_known (directive_in version (directive_of (field fields 0))) fields n) (no_number n) (known_numbers (directive_in version (directive_of (field fields 0))) fields n)) h
 
 -- and among the others
 others_numbers : (before all : List (List (List ℕ))) (d : Directive) (fields : List (List ℕ)) (n : ℕ) → IsTrue (breaks_others before all d fields n) → IsNumber n
@@ -156,13 +154,14 @@ others_numbers before all d fields n h =
 among_numbers : (before all : List (List (List ℕ))) (d : Option Directive) (fields : List (List ℕ)) (n : ℕ) → IsTrue (breaks_among before all d fields n) → IsNumber n
 unfolding breaks_among
 among_numbers before all None fields n h = no_number n h
-among_numbers before all (Some d) fields n h = others_numbers before all d fields n (and_right (has_count d (length fields)) (breaks_others before all d fields n) h)
+among_numbers before all (Some d) fields n h = others_numbers before all d fields n (and_parts (has_count d (length fields)) (breaks_others before all d fields n) h).1
 
 line_numbers : (before all : List (List (List ℕ))) (line : ℕ) (fields : List (List ℕ)) (n : ℕ) → IsTrue (breaks_line before all line fields n) → IsNumber n
 unfolding breaks_line
 line_numbers before all line fields n h =
-    of_either n (breaks_alone line fields n) (not (line == 1) && breaks_among before all (said fields) fields n) (alone_numbers line fields n)
-    (λ b. among_numbers before all (said fields) fields n (and_right (not (line == 1)) (breaks_among before all (said fields) fields n) b)) h
+    of_either n (breaks_alone (version_of all) line fields n) (not (line == 1) && breaks_among before all (directive_among all fields) fields n)
+    (alone_numbers (version_of all) line fields n)
+    (λ b. among_numbers before all (directive_among all fields) fields n (and_parts (not (line == 1)) (breaks_among before all (directive_among all fields) fields n) b).1) h
 
 -- a broken rule among those that are searched
 record IsListed (count line n : ℕ) : Type 0 where
@@ -187,8 +186,8 @@ lines_listed lines line number h =
 -- no line
 on_none : (count line number : ℕ) (b : Bool) → 0 < count → (IsTrue b → IsNumber number) → IsTrue ((line == 0) && b) → IsListed count line number
 on_none count line number b c f h =
-    let e = eqb-true line 0 (and_left (line == 0) b h) in
-    record { before = omega arith; number = f (and_right (line == 0) b h) }
+    let e = eqb-true line 0 (and_parts (line == 0) b h).0 in
+    record { before = omega arith; number = f (and_parts (line == 0) b h).1 }
 
 counts_listed : (lines : List (List (List ℕ))) (line number : ℕ) → IsTrue (count_rules lines line number) → IsListed (length lines + 2) line number
 unfolding count_rules
@@ -203,8 +202,8 @@ either_listed count line n false b f g h = g h
 
 on_part : (count own line n : ℕ) (breaks : ℕ → Bool) → own < count → (IsTrue (breaks n) → IsNumber n) → IsTrue (on_line own breaks line n) → IsListed count line n
 on_part count own line n breaks c f h =
-    let e = eqb-true own line (and_left (own == line) (breaks n) h) in
-    record { before = omega arith; number = f (and_right (own == line) (breaks n) h) }
+    let e = eqb-true own line (and_parts (own == line) (breaks n) h).0 in
+    record { before = omega arith; number = f (and_parts (own == line) (breaks n) h).1 }
 
 any_listed : (count line n : ℕ) (rules : ℕ → Rules) (ks : List ℕ) → ((k : ℕ) → IsTrue (rules k line n) → IsListed count line n) → IsTrue (list_any (λ k. rules k line n) ks) → IsListed count line n
 any_listed count line n rules [] f h = absurd (cc)
@@ -293,7 +292,7 @@ pipe_numbers dt tolerance p n h =
 
 node_numbers : (case : Case) (x : Node) (ends : List End) (n : ℕ) → IsTrue (breaks_node case x ends n) → IsNumber n
 unfolding breaks_node
-node_numbers case x ends n h = of_two n 11 15 (not (ends_suit x.kind ends)) (exceeds case x.kind ends) (number 11 refl) (number 15 refl) h
+node_numbers case x ends n h = of_two n 11 15 (not (ends_suit (most_ends case.version) x.kind ends)) (exceeds case x.kind ends) (number 11 refl) (number 15 refl) h
 
 pipe_listed : (case : Case) (count line n p : ℕ) → (pipe_at case p).line < count → IsTrue (pipe_rules case p line n) → IsListed count line n
 pipe_listed case count line n p c h = on_part count (pipe_at case p).line line n (breaks_pipe case.dt case.tolerance (pipe_at case p)) c (pipe_numbers case.dt case.tolerance (pipe_at case p) n) h

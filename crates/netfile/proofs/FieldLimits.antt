@@ -1,6 +1,6 @@
 -- What follows of lines that break no rule: the counts, the spelling and the limits of their fields.
 use Rattle.std.proofs.Common.{◌≡◌, ◌<◌, ◌≤◌, ◌≤ℤ◌, ℕ, zero, suc, ℤ, pos, neg_ℤ, unsigned_abs, ◌+◌, ◌-◌, ◌==◌, ◌&&◌, ◌||◌, not, nat_lt, nat_le, Bool, true, false, cond, IsTrue, Some, None, Result, Ok, Err, List, [], ◌∷◌, length, take, get_or, refl, ap, ◌∙◌, arith, lt-ltb, le-leb}
-use Rattle.std.proofs.lemmas.Bool.{ne_eqb}
+use Rattle.std.proofs.lemmas.Bool.{ne_eqb, and_parts, or_parts, not-false, false_from_ne_true}
 use Rattle.std.proofs.lemmas.Bool.Decides.{nat_tests}
 use Rattle.std.proofs.lemmas.Int.{ints}
 use Rattle.std.proofs.lemmas.List.Folds.{list_any_at}
@@ -17,16 +17,18 @@ use Rattle.case_lines.specs.declared.words.Directive.{Directive}
 use Rattle.case_lines.specs.declared.quantities.NumberLimits.{NumberLimits}
 use Rattle.case_lines.specs.declared.quantities.Quantity.{Quantity}
 use Rattle.case_lines.specs.declared.fields.FieldKind.TheVariants.{Number}
-use Rattle.case_lines.specs.Words.{directive_of, single_of, table_of, node_of}
+use Rattle.case_lines.specs.Words.{directive_of, single_of, table_of, node_of, has_directive, directive_in}
 use Rattle.case_lines.specs.Quantities.{limits, quantity_in, is_spelt, is_outside, number_or_zero, amount}
-use Rattle.case_lines.specs.Fields.{field, is_heading, field_kind, has_count, has_too_many}
+use Rattle.case_lines.specs.Fields.{field, is_heading, is_version, field_kind, has_count, has_too_many}
 use Rattle.case_lines.specs.Tables.{is_disordered}
 use Rattle.case_lines.specs.Alone.{breaks_number, breaks_field, breaks_fields, is_readable, breaks_counted, breaks_known, breaks_alone}
-use Rattle.case_rules.specs.Said.{line_at, said}
-use Rattle.case_rules.specs.Among.{is_unknown, uses_unknown, breaks_counted as breaks_counted_among, breaks_among, breaks_line, line_rules}
+use Rattle.case_rules.specs.Said.{line_at, version_of, said}
+use Rattle.case_rules.specs.Among.{directive_among, is_unknown, uses_unknown, breaks_counted as breaks_counted_among, breaks_among, breaks_line, line_rules}
+use Rattle.fixed_num.proofs.Orders.{at_most_of}
 
 -- what is known of a line with this directive among lines that break no rule
 pub record IsKept (lines : List (List (List ℕ))) (d : Directive) (fields : List (List ℕ)) : Type 0 where
+  pub allowed : has_directive (version_of lines) d ≡ true
   pub counted : has_count d (length fields) ≡ true
   pub few : has_too_many d (length fields) ≡ false
   pub each : (k number : ℕ) → 1 ≤ k → k < length fields → breaks_field (field_kind d k) (field fields k) number ≡ false
@@ -36,30 +38,6 @@ pub record IsKept (lines : List (List (List ℕ))) (d : Directive) (fields : Lis
 -- the same of a line with whatever directive
 abbrev pub IsLine : List (List (List ℕ)) → List (List ℕ) → Type 0
 IsLine lines fields = (d : Directive) → said fields ≡ Some d → IsKept lines d fields
-
-pub and_left : (a b : Bool) → (a && b) ≡ true → a ≡ true
-and_left true b h = refl
-and_left false b h = h
-
-pub and_right : (a b : Bool) → (a && b) ≡ true → b ≡ true
-and_right true b h = h
-and_right false b h = cc
-
-pub or_left : (a b : Bool) → (a || b) ≡ false → a ≡ false
-or_left true b h = cc
-or_left false b h = refl
-
-pub or_right : (a b : Bool) → (a || b) ≡ false → b ≡ false
-or_right true b h = cc
-or_right false b h = h
-
-pub not_not : (b : Bool) → not b ≡ false → b ≡ true
-not_not true h = refl
-not_not false h = cc
-
-not_true : (b : Bool) → (IsTrue b → ⊥) → b ≡ false
-not_true true h = absurd (h refl)
-not_true false h = refl
 
 -- where none of a range of numbers passes a test, each of them fails
 failing : (p : ℕ → Bool) (n k : ℕ) (b : Bool) → p k ≡ b → 1 ≤ k → k ≤ n → list_any p (range_with_len 1 n) ≡ false → b ≡ false
@@ -79,16 +57,16 @@ on_line lines k number h b =
     rw (p, q, o, b) refl
 
 pub line_none : (lines : List (List (List ℕ))) (k number : ℕ) → k < length lines → IsEmpty (line_rules lines) → breaks_line (take k lines) lines (k + 1) (line_at lines k) number ≡ false
-line_none lines k number h empty = not_true _ (λ b. empty (k + 1) number (on_line lines k number h b))
+line_none lines k number h empty = false_from_ne_true _ (λ b. empty (k + 1) number (on_line lines k number h b))
 
-alone_none : (before lines : List (List (List ℕ))) (line number : ℕ) (fields : List (List ℕ)) → breaks_line before lines line fields number ≡ false → breaks_alone line fields number ≡ false
+alone_none : (before lines : List (List (List ℕ))) (line number : ℕ) (fields : List (List ℕ)) → breaks_line before lines line fields number ≡ false → breaks_alone (version_of lines) line fields number ≡ false
 unfolding breaks_line
-alone_none before lines line number fields h = or_left (breaks_alone line fields number) _ h
+alone_none before lines line number fields h = (or_parts (breaks_alone (version_of lines) line fields number) _ h).0
 
-pub among_none : (before lines : List (List (List ℕ))) (line number : ℕ) (fields : List (List ℕ)) → (line == 1) ≡ false → breaks_line before lines line fields number ≡ false → breaks_among before lines (said fields) fields number ≡ false
+pub among_none : (before lines : List (List (List ℕ))) (line number : ℕ) (fields : List (List ℕ)) → (line == 1) ≡ false → breaks_line before lines line fields number ≡ false → breaks_among before lines (directive_among lines fields) fields number ≡ false
 unfolding breaks_line
 among_none before lines line number fields e h =
-    let r : (not (line == 1) && breaks_among before lines (said fields) fields number) ≡ false = or_right (breaks_alone line fields number) _ h in
+    let r : (not (line == 1) && breaks_among before lines (directive_among lines fields) fields number) ≡ false = (or_parts (breaks_alone (version_of lines) line fields number) _ h).1 in
     rw e at r
 
 -- the first line has no directive
@@ -97,15 +75,17 @@ unfolding directive_of single_of table_of node_of
 surge_none = refl
 
 heading_word : (fields : List (List ℕ)) → is_heading fields ≡ true → bytes_eq (field fields 0) (codes "surge") ≡ true
-heading_word fields h = and_right (length fields == 2) (bytes_eq (field fields 0) (codes "surge")) (and_left ((length fields == 2) && bytes_eq (field fields 0) (codes "surge")) (bytes_eq (field fields 1) (codes "1")) h)
+heading_word fields h =
+    let front = (and_parts ((length fields == 2) && bytes_eq (field fields 0) (codes "surge")) (is_version (field fields 1)) h).0 in
+    (and_parts (length fields == 2) (bytes_eq (field fields 0) (codes "surge")) front).1
 
 heading_none : (fields : List (List ℕ)) → is_heading fields ≡ true → said fields ≡ None
 unfolding said
 heading_none fields h = ap directive_of ((bytes_eq-Decides (field fields 0) (codes "surge")).0 (heading_word fields h)) ∙ surge_none
 
-first_heading : (fields : List (List ℕ)) → breaks_alone 1 fields 1 ≡ false → is_heading fields ≡ true
+first_heading : (version : ℕ) (fields : List (List ℕ)) → breaks_alone version 1 fields 1 ≡ false → is_heading fields ≡ true
 unfolding breaks_alone
-first_heading fields h = not_not (is_heading fields) h
+first_heading version fields h = not-false (is_heading fields) h
 
 -- nor has a line without fields
 empty_none : (fields : List (List ℕ)) → (length fields == 0) ≡ true → said fields ≡ None
@@ -117,11 +97,21 @@ some_fields : (fields : List (List ℕ)) (d : Directive) (b : Bool) → (length 
 some_fields fields d true e h = absurd (let n = empty_none fields e in cc)
 some_fields fields d false e h = refl
 
-known_none : (line number : ℕ) (fields : List (List ℕ)) (d : Directive) → (line == 1) ≡ false → said fields ≡ Some d → breaks_alone line fields number ≡ false → breaks_known (Some d) fields number ≡ false
+known_none : (version line number : ℕ) (fields : List (List ℕ)) (d : Directive) → (line == 1) ≡ false → said fields ≡ Some d
+    → breaks_alone version line fields number ≡ false → breaks_known (directive_in version (Some d)) fields number ≡ false
 unfolding breaks_alone said
-known_none line number fields d e s h =
+known_none version line number fields d e s h =
     let z : (length fields == 0) ≡ false = some_fields fields d (length fields == 0) refl s in
     rw (e, z, s) at h
+
+-- a directive that the version hasn't is an unknown word
+allowed_of : (d : Directive) (fields : List (List ℕ)) (b : Bool) → breaks_known (cond b (Some d) None) fields 2 ≡ false → b ≡ true
+allowed_of d fields true h = refl
+allowed_of d fields false h = cc
+
+allowed_none : (version number : ℕ) (fields : List (List ℕ)) (d : Directive) → has_directive version d ≡ true
+    → breaks_known (directive_in version (Some d)) fields number ≡ false → breaks_known (Some d) fields number ≡ false
+allowed_none version number fields d a h = rw a at h
 
 counted_of : (b x : Bool) → cond b x true ≡ false → b ≡ true
 counted_of true x h = refl
@@ -138,7 +128,7 @@ unfolding breaks_counted
 fields_none fields d number h =
     let f = breaks_fields d fields (length fields - 1) number in
     let many = (number == 10) && has_too_many d (length fields) in
-    or_left f many (or_left (f || many) ((number == 14) && is_readable d fields && is_disordered d fields) h)
+    (or_parts f many (or_parts (f || many) ((number == 14) && is_readable d fields && is_disordered d fields) h).0).0
 
 field_none : (fields : List (List ℕ)) (d : Directive) (k number : ℕ) → 1 ≤ k → k < length fields → breaks_fields d fields (length fields - 1) number ≡ false → breaks_field (field_kind d k) (field fields k) number ≡ false
 unfolding breaks_fields
@@ -149,19 +139,20 @@ not_many : (fields : List (List ℕ)) (d : Directive) → breaks_counted d field
 unfolding breaks_counted
 not_many fields d h =
     let f = breaks_fields d fields (length fields - 1) 10 in
-    or_right f (has_too_many d (length fields)) (or_left (f || has_too_many d (length fields)) false h)
+    (or_parts f (has_too_many d (length fields)) (or_parts (f || has_too_many d (length fields)) false h).0).1
 
 not_disordered : (fields : List (List ℕ)) (d : Directive) → breaks_fields d fields (length fields - 1) 4 ≡ false → breaks_fields d fields (length fields - 1) 5 ≡ false → breaks_counted d fields 14 ≡ false → is_disordered d fields ≡ false
 unfolding breaks_counted
 not_disordered fields d f g h =
-    let r : (is_readable d fields && is_disordered d fields) ≡ false = or_right (breaks_fields d fields (length fields - 1) 14 || false) (is_readable d fields && is_disordered d fields) h in
+    let r : (is_readable d fields && is_disordered d fields) ≡ false = (or_parts (breaks_fields d fields (length fields - 1) 14 || false) (is_readable d fields && is_disordered d fields) h).1 in
     rw (f, g) at r
 
-unknown_none : (before lines : List (List (List ℕ))) (fields : List (List ℕ)) (d : Directive) (k : ℕ) → has_count d (length fields) ≡ true → said fields ≡ Some d → breaks_among before lines (said fields) fields 7 ≡ false → 1 ≤ k → k < length fields
+unknown_none : (before lines : List (List (List ℕ))) (fields : List (List ℕ)) (d : Directive) (k : ℕ) → has_directive (version_of lines) d ≡ true
+    → has_count d (length fields) ≡ true → said fields ≡ Some d → breaks_among before lines (directive_among lines fields) fields 7 ≡ false → 1 ≤ k → k < length fields
     → is_unknown lines (field_kind d k) (field fields k) ≡ false
 unfolding breaks_among breaks_counted_among uses_unknown
-unknown_none before lines fields d k c s h l m =
-    let b : uses_unknown lines d fields (length fields - 1) ≡ false = or_left (uses_unknown lines d fields (length fields - 1)) false (rw (s, c) at h) in
+unknown_none before lines fields d k a c s h l m =
+    let b : uses_unknown lines d fields (length fields - 1) ≡ false = (or_parts (uses_unknown lines d fields (length fields - 1)) false (rw (s, a, c) at h)).0 in
     failing (λ j. is_unknown lines (field_kind d j) (field fields j)) (length fields - 1) k (is_unknown lines (field_kind d k) (field fields k)) refl l (omega arith) b
 
 -- a line behind the first
@@ -169,20 +160,25 @@ line_kept : (lines : List (List (List ℕ))) (k : ℕ) (d : Directive) → 1 ≤
 line_kept lines k d l h empty s =
     let e : (k + 1 == 1) ≡ false = ne_eqb (k + 1) 1 (λ z. absurd (omega arith)) in
     let fields = line_at lines k in
-    let known : (number : ℕ) → breaks_known (Some d) fields number ≡ false = λ number. known_none (k + 1) number fields d e s (alone_none (take k lines) lines (k + 1) number fields (line_none lines k number h empty)) in
+    let version = version_of lines in
+    let among : (number : ℕ) → breaks_known (directive_in version (Some d)) fields number ≡ false =
+    λ number. known_none version (k + 1) number fields d e s (alone_none (take k lines) lines (k + 1) number fields (line_none lines k number h empty)) in
+    let a : has_directive version d ≡ true = allowed_of d fields (has_directive version d) (among 2) in
+    let known : (number : ℕ) → breaks_known (Some d) fields number ≡ false = λ number. allowed_none version number fields d a (among number) in
     let c : has_count d (length fields) ≡ true = has_counted fields d (known 3) in
     let none : (number : ℕ) → breaks_counted d fields number ≡ false = λ number. counted_none fields d number c (known number) in
     record {
+      allowed = a;
       counted = c;
       few = not_many fields d (none 10);
-      each = λ j number a b. field_none fields d j number a b (fields_none fields d number (none number));
+      each = λ j number low high. field_none fields d j number low high (fields_none fields d number (none number));
       ordered = not_disordered fields d (fields_none fields d 4 (none 4)) (fields_none fields d 5 (none 5)) (none 14);
-      known = λ j a b. unknown_none (take k lines) lines fields d j c s (among_none (take k lines) lines (k + 1) 7 fields e (line_none lines k 7 h empty)) a b;
+      known = λ j low high. unknown_none (take k lines) lines fields d j a c s (among_none (take k lines) lines (k + 1) 7 fields e (line_none lines k 7 h empty)) low high;
     }
 
 -- a line with a directive is not the first
 pub not_first : (lines : List (List (List ℕ))) (k : ℕ) (d : Directive) → k < length lines → IsEmpty (line_rules lines) → said (line_at lines k) ≡ Some d → 1 ≤ k
-not_first lines zero d h empty s = absurd (let n = heading_none (line_at lines 0) (first_heading (line_at lines 0) (alone_none (take 0 lines) lines 1 1 (line_at lines 0) (line_none lines 0 1 h empty))) in cc)
+not_first lines zero d h empty s = absurd (let n = heading_none (line_at lines 0) (first_heading (version_of lines) (line_at lines 0) (alone_none (take 0 lines) lines 1 1 (line_at lines 0) (line_none lines 0 1 h empty))) in cc)
 not_first lines (suc k) d h empty s = omega arith
 
 -- each line of a text that breaks no rule of lines
@@ -196,14 +192,11 @@ all_at P (fields ∷ lines) f = (f 0 (omega arith), all_at P lines (λ k h. f (s
 pub all_kept : (lines : List (List (List ℕ))) → IsEmpty (line_rules lines) → AllByRecursion (IsLine lines) lines
 all_kept lines empty = all_at (IsLine lines) lines (λ k h. kept_at lines k h empty)
 
-pub le_of : (x y : ℤ) → int_le x y ≡ true → x ≤ℤ y
-le_of x y h = grind (arith, ints)
-
 -- a number that is spelt, and not outside its limits, lies within them
 within_of : (l : NumberLimits) (r : Result ℤ NumberFault) → is_spelt r ≡ true → is_outside l r ≡ false → IsWithin l.least l.most (number_or_zero r)
 within_of l (Ok x) s o =
-    let t : (int_le l.least x && int_le x l.most) ≡ true = not_not _ o in
-    record { low = le_of l.least x (and_left (int_le l.least x) (int_le x l.most) t); high = le_of x l.most (and_right (int_le l.least x) (int_le x l.most) t) }
+    let t : (int_le l.least x && int_le x l.most) ≡ true = not-false _ o in
+    record { low = at_most_of l.least x (and_parts (int_le l.least x) (int_le x l.most) t).0; high = at_most_of x l.most (and_parts (int_le l.least x) (int_le x l.most) t).1 }
 within_of l (Err Spelling) s o = absurd (cc)
 within_of l (Err Places) s o = absurd (cc)
 within_of l (Err Large) s o = absurd (cc)
@@ -212,7 +205,7 @@ within_of l (Err Large) s o = absurd (cc)
 pub in_limits : (quantity : Quantity) (text : List ℕ) → breaks_number quantity text 4 ≡ false → breaks_number quantity text 5 ≡ false → IsWithin (limits quantity).least (limits quantity).most (amount quantity text)
 unfolding breaks_number amount
 in_limits quantity text f g =
-    within_of (limits quantity) (quantity_in quantity text) (not_not (is_spelt (quantity_in quantity text)) (or_left (not (is_spelt (quantity_in quantity text))) false f)) g
+    within_of (limits quantity) (quantity_in quantity text) (not-false (is_spelt (quantity_in quantity text)) (or_parts (not (is_spelt (quantity_in quantity text))) false f).0) g
 
 number_kept : (quantity : Quantity) (text : List ℕ) → ((number : ℕ) → breaks_field (Number quantity) text number ≡ false) → IsWithin (limits quantity).least (limits quantity).most (amount quantity text)
 unfolding breaks_field

@@ -1,5 +1,6 @@
 -- The pipes of lines that break no rule join nodes that are there.
 use Rattle.std.proofs.Common.{◌≡◌, ◌<◌, ℕ, suc, ◌+◌, Bool, true, false, List, [], ◌∷◌, length, Option, Some, None, refl, sym, ◌∙◌, arith}
+use Rattle.std.proofs.lemmas.Bool.{not-false, or_left}
 use Rattle.std.proofs.lemmas.Bool.Decides.{nat_tests}
 use Rattle.std.proofs.lemmas.List.Elements.{All-from_recursion}
 use Rattle.std.specs.List.{list_any, All, AllByRecursion, cons_option}
@@ -18,8 +19,8 @@ use Rattle.case_rules.specs.declared.parts.Part.TheVariants.{ANode}
 use Rattle.case_rules.specs.Said.{line_at, said, defines_part}
 use Rattle.case_rules.specs.Among.{is_unknown, line_rules}
 use Rattle.netfile.specs.Built.{node_index, node_by, node_said, nodes_from, nodes_of, tables_of, pipe_of, pipe_by, pipe_said, pipes_from, pipes_of}
-use Rattle.netfile.proofs.Found.{found, all_cons, any_cons, or_left, one_of}
-use Rattle.netfile.proofs.FieldLimits.{IsKept, kept_at, not_not}
+use Rattle.netfile.proofs.Found.{found, all_cons, any_cons, one_of}
+use Rattle.netfile.proofs.FieldLimits.{IsKept, kept_at}
 use Rattle.netfile.proofs.TableNames.{defines_by, numbered_by, no_number, no_table_number, has_number_of, has_name_of}
 
 -- whether a node has this name
@@ -52,7 +53,7 @@ node_found lines name h = (found (is_node_named name) (nodes_of lines) (node_lis
 -- the same of a field that must name a node
 pub node_named : (lines : List (List (List ℕ))) (text : List ℕ) → is_unknown lines NodeName text ≡ false → node_index (nodes_of lines) text < length (nodes_of lines)
 unfolding is_unknown
-node_named lines text h = node_found lines text (not_not (list_any (defines_part ANode text) lines) h)
+node_named lines text h = node_found lines text (not-false (list_any (defines_part ANode text) lines) h)
 
 all_pipes : (P : Pipe → Type 0) (nodes : List Node) (line : ℕ) (lines : List (List (List ℕ))) → ((k at : ℕ) → k < length lines → IfSome (pipe_said nodes at (line_at lines k)) P) → AllByRecursion P (pipes_from nodes line lines)
 all_pipes P nodes line [] f = tt

@@ -2,7 +2,7 @@
 use Rattle.std.proofs.Common.{ℕ, suc, ◌<◌, ◌≤◌, ◌≡◌, ◌&&◌, nat_lt, true, false, ℤ, pos, unsigned_abs, Option, Some, None, List, [], ◌∷◌, length, refl, arith}
 use Rattle.std.proofs.lemmas.Int.{ints}
 use Rattle.std.specs.List.{AllByRecursion}
-use Rattle.std.proofs.lemmas.Bool.{eqb-true}
+use Rattle.std.proofs.lemmas.Bool.{eqb-true, and_parts}
 use Rattle.std.proofs.lemmas.Bool.Decides.{nat_tests}
 use Rattle.case_model.specs.Limits.{IsWithin}
 use Rattle.case_model.specs.Sets.{IsEmpty}
@@ -16,10 +16,10 @@ use Rattle.case_lines.specs.Alone.{breaks_name, breaks_field}
 use Rattle.case_rules.specs.Said.{line_at, said, named_by, is_some_part, is_definition}
 use Rattle.case_rules.specs.Among.{line_rules}
 use Rattle.netfile.specs.Named.{IsNamed, IsPlaced}
-use Rattle.netfile.proofs.FieldLimits.{and_left, and_right, IsKept, IsLine, kept_at, field_kept}
+use Rattle.netfile.proofs.FieldLimits.{IsKept, IsLine, kept_at, field_kept}
 
 -- a new name
-new_name : (d : Directive) → is_some_part (named_by (Some d)) ≡ true → field_kind d 1 ≡ NewName
+pub new_name : (d : Directive) → is_some_part (named_by (Some d)) ≡ true → field_kind d 1 ≡ NewName
 unfolding field_kind
 new_name (OfSingle single) h = absurd (cc)
 new_name (OfTable kind) h = refl
@@ -28,7 +28,7 @@ new_name OfPipe h = refl
 new_name OfProbe h = absurd (cc)
 new_name OfWatch h = absurd (cc)
 
-short_name : (text : List ℕ) → breaks_field NewName text 10 ≡ false → length text ≤ 32
+pub short_name : (text : List ℕ) → breaks_field NewName text 10 ≡ false → length text ≤ 32
 unfolding breaks_field breaks_name
 short_name text h = grind (arith, nat_tests)
 
@@ -38,8 +38,8 @@ named_by_kept lines d fields p h k = short_name (field fields 1) (let f = k.each
 named_said : (lines : List (List (List ℕ))) (o : Option Directive) (fields : List (List ℕ)) → said fields ≡ o → IsLine lines fields → (is_some_part (named_by o) && nat_lt 1 (length fields)) ≡ true → length (field fields 1) ≤ 32
 named_said lines None fields e f h = absurd (cc)
 named_said lines (Some d) fields e f h =
-    let l : nat_lt 1 (length fields) ≡ true = and_right (is_some_part (named_by (Some d))) (nat_lt 1 (length fields)) h in
-    named_by_kept lines d fields (and_left (is_some_part (named_by (Some d))) (nat_lt 1 (length fields)) h) (grind (arith, nat_tests)) (f d e)
+    let l : nat_lt 1 (length fields) ≡ true = (and_parts (is_some_part (named_by (Some d))) (nat_lt 1 (length fields)) h).1 in
+    named_by_kept lines d fields (and_parts (is_some_part (named_by (Some d))) (nat_lt 1 (length fields)) h).0 (grind (arith, nat_tests)) (f d e)
 
 named_line : (lines : List (List (List ℕ))) (fields : List (List ℕ)) → IsLine lines fields → IsNamed fields
 unfolding is_definition

@@ -1,5 +1,6 @@
 -- Of lines that break no rule on counts the parts are few, and there is a pipe.
 use Rattle.std.proofs.Common.{ℕ, ◌+◌, ◌<◌, ◌≤◌, ◌≡◌, ◌==◌, ◌||◌, not, nat_lt, Bool, true, false, IsTrue, cond, Option, Some, None, List, [], ◌∷◌, length, codes, ap, sym, subst, ◌∙◌, refl, arith}
+use Rattle.std.proofs.lemmas.Bool.{false_from_ne_true}
 use Rattle.std.specs.List.{list_any, cons_option}
 use Rattle.std.proofs.lemmas.List.Sums.{sum_by-cons}
 use Rattle.std.proofs.lemmas.Bool.Decides.{nat_tests}
@@ -13,13 +14,10 @@ use Rattle.case_lines.specs.declared.words.Directive.TheVariants.{OfSingle, OfTa
 use Rattle.case_rules.specs.Said.{said, is_single_of}
 use Rattle.case_rules.specs.Counts.{is_table, is_node, is_pipe, is_sampled, count_of, is_incomplete, is_too_large, count_rules}
 use Rattle.netfile.specs.Built.{table_by, table_said, tables_from, tables_of, node_by, node_said, nodes_from, nodes_of, pipe_by, pipe_said, pipes_from, pipes_of, probe_by, probe_said, probes_from, probes_of}
+use Rattle.case_rules.proofs.Tallied.{count_more}
 
 one_if : Bool → ℕ
 one_if b = cond b 1 0
-
-count_more : (p : Option Directive → Bool) (fields : List (List ℕ)) (lines : List (List (List ℕ))) → count_of p (fields ∷ lines) ≡ one_if (p (said fields)) + count_of p lines
-unfolding count_of one_if
-count_more p fields lines = sum_by-cons (λ f. cond (p (said f)) 1 0) fields lines
 
 count_none : (p : Option Directive → Bool) → 0 ≡ count_of p []
 unfolding count_of
@@ -94,17 +92,13 @@ probes_count pipes nodes line (fields ∷ lines) =
     probe_one pipes nodes (said fields) line fields (probes_from pipes nodes (line + 1) lines) ∙ add_same (one_if (is_sampled (said fields))) _ _ (probes_count pipes nodes (line + 1) lines) ∙ sym (count_more is_sampled fields lines)
 
 -- what the rules on counts say of the counts
-not_true : (b : Bool) → (IsTrue b → ⊥) → b ≡ false
-not_true true h = absurd (h refl)
-not_true false h = refl
-
 complete : (lines : List (List (List ℕ))) → IsEmpty (count_rules lines) → is_incomplete lines ≡ false
 unfolding count_rules
-complete lines empty = not_true (is_incomplete lines) (λ h. empty 0 8 (rw h refl))
+complete lines empty = false_from_ne_true (is_incomplete lines) (λ h. empty 0 8 (rw h refl))
 
 not_large : (lines : List (List (List ℕ))) → IsEmpty (count_rules lines) → is_too_large lines ≡ false
 unfolding count_rules
-not_large lines empty = not_true (is_too_large lines) (λ h. empty 0 10 (rw h refl))
+not_large lines empty = false_from_ne_true (is_too_large lines) (λ h. empty 0 10 (rw h refl))
 
 -- each count is at most this
 record AreFew (t n p q : ℕ) : Type 0 where

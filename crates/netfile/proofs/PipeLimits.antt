@@ -9,7 +9,7 @@ use Rattle.case_model.specs.Limits.{IsPipe}
 use Rattle.case_model.specs.Sets.{IsEmpty}
 use Rattle.case_lines.specs.declared.words.Directive.{Directive}
 use Rattle.case_lines.specs.declared.words.Directive.TheVariants.{OfSingle, OfTable, OfNode, OfPipe, OfProbe, OfWatch}
-use Rattle.case_lines.specs.declared.quantities.Quantity.TheVariants.{Flow, Length, Diameter, WaveSpeed, Friction}
+use Rattle.case_lines.specs.declared.quantities.Quantity.TheVariants.{Flow, Length, Diameter, WaveSpeed, FrictionFactor}
 use Rattle.case_lines.specs.Fields.{field_kind, has_count}
 use Rattle.case_rules.specs.Said.{said}
 use Rattle.case_rules.specs.Among.{line_rules}
@@ -28,7 +28,7 @@ pipe_in lines nodes line fields h =
       length = field_kept lines OfPipe fields 4 Length h (omega arith) (omega arith) refl;
       diameter = field_kept lines OfPipe fields 5 Diameter h (omega arith) (omega arith) refl;
       speed = field_kept lines OfPipe fields 6 WaveSpeed h (omega arith) (omega arith) refl;
-      friction = field_kept lines OfPipe fields 7 Friction h (omega arith) (omega arith) refl;
+      friction = field_kept lines OfPipe fields 7 FrictionFactor h (omega arith) (omega arith) refl;
       flow = size_within 1_000_000_000_000 _ (field_kept lines OfPipe fields 8 Flow h (omega arith) (omega arith) refl);
     }
 

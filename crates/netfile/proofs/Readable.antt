@@ -6,7 +6,7 @@ use Rattle.case_rules.specs.Among.{line_rules}
 use Rattle.case_rules.specs.Counts.{count_rules}
 use Rattle.netfile.specs.Built.{case_of}
 use Rattle.netfile.proofs.PartCounts.{few_tables_in, few_nodes_in, few_pipes_in, few_probes_in}
-use Rattle.netfile.proofs.SingleLimits.{dt_in, steps_in, vapour_in, weight_in, tolerance_in, every_in}
+use Rattle.netfile.proofs.SingleLimits.{version_read, friction_read, dt_in, steps_in, vapour_in, weight_in, tolerance_in, every_in}
 use Rattle.netfile.proofs.TableLimits.{tables_in}
 use Rattle.netfile.proofs.PipeLimits.{pipes_in}
 use Rattle.netfile.proofs.NodeLimits.{nodes_in}
@@ -16,6 +16,8 @@ use Rattle.netfile.proofs.Spots.{spots_in}
 pub is_read : (lines : List (List (List ℕ))) → IsEmpty (line_rules lines) → IsEmpty (count_rules lines) → IsRead (case_of lines)
 unfolding case_of
 is_read lines kept counts = record {
+  version = version_read lines;
+  friction = friction_read lines;
   dt = dt_in lines kept counts;
   some_steps = (steps_in lines kept counts).0;
   few_steps = (steps_in lines kept counts).1;

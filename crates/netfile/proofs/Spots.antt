@@ -1,5 +1,6 @@
 -- The probes and watches of lines that break no rule stand at pipes and nodes that are there.
 use Rattle.std.proofs.Common.{◌≡◌, ◌<◌, ◌≤◌, ℕ, suc, ◌+◌, Bool, true, false, pos, ◌≤ℤ◌, ℤ, unsigned_abs, List, [], ◌∷◌, length, Option, Some, None, refl, sym, ◌∙◌, arith}
+use Rattle.std.proofs.lemmas.Bool.{not-false, or_left}
 use Rattle.std.proofs.lemmas.Bool.Decides.{nat_tests}
 use Rattle.std.proofs.lemmas.Int.{ints}
 use Rattle.std.proofs.lemmas.List.Elements.{All-from_recursion}
@@ -22,8 +23,8 @@ use Rattle.case_rules.specs.declared.parts.Part.TheVariants.{APipe}
 use Rattle.case_rules.specs.Said.{line_at, said, defines_part}
 use Rattle.case_rules.specs.Among.{is_unknown, line_rules}
 use Rattle.netfile.specs.Built.{node_index, nodes_of, pipe_index, pipe_of, pipe_by, pipe_said, pipes_from, pipes_of, probe_by, probe_said, probes_from, probes_of}
-use Rattle.netfile.proofs.Found.{found, all_cons, any_cons, or_left, one_of}
-use Rattle.netfile.proofs.FieldLimits.{IsKept, kept_at, not_not}
+use Rattle.netfile.proofs.Found.{found, all_cons, any_cons, one_of}
+use Rattle.netfile.proofs.FieldLimits.{IsKept, kept_at}
 use Rattle.netfile.proofs.Amounts.{IsFieldKept, number_kept}
 use Rattle.netfile.proofs.Joins.{node_named}
 use Rattle.netfile.proofs.TableNames.{defines_by, numbered_by, no_number, no_table_number, has_number_of, has_name_of}
@@ -63,7 +64,7 @@ pipe_found lines name h = (found (is_pipe_named name) (pipes_of lines) (pipe_lis
 -- the same of a field that must name a pipe
 pipe_named : (lines : List (List (List ℕ))) (text : List ℕ) → is_unknown lines PipeName text ≡ false → pipe_index (pipes_of lines) text < length (pipes_of lines)
 unfolding is_unknown
-pipe_named lines text h = pipe_found lines text (not_not (list_any (defines_part APipe text) lines) h)
+pipe_named lines text h = pipe_found lines text (not-false (list_any (defines_part APipe text) lines) h)
 
 all_probes : (P : Probe → Type 0) (pipes : List Pipe) (nodes : List Node) (line : ℕ) (lines : List (List (List ℕ))) → ((k at : ℕ) → k < length lines → IfSome (probe_said pipes nodes at (line_at lines k)) P)
     → AllByRecursion P (probes_from pipes nodes line lines)

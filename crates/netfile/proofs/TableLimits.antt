@@ -1,6 +1,6 @@
 -- The pairs of the tables lie within their limits and stand in order, where the lines break no rule.
 use Rattle.std.proofs.Common.{◌≡◌, ◌≤◌, ◌<◌, ◌<ℤ◌, ◌==◌, ◌&&◌, nat_lt, nat_le, ℕ, ◌+◌, ◌-◌, ◌*◌, ◌/◌, ◌%◌, ℤ, pos, Bool, true, false, Option, Some, None, List, [], ◌∷◌, length, get_or, All, refl, sym, subst, arith, ◌∙◌}
-use Rattle.std.proofs.lemmas.Bool.{ne_eqb}
+use Rattle.std.proofs.lemmas.Bool.{ne_eqb, and_parts, not-false}
 use Rattle.std.proofs.lemmas.Bool.Decides.{nat_tests, Decides-int_eq}
 use Rattle.std.proofs.lemmas.Int.{ints}
 use Rattle.std.proofs.lemmas.List.Elements.{All-nil, All-cons}
@@ -22,7 +22,8 @@ use Rattle.case_lines.specs.Tables.{pair_count, pair_at, pairs_of, rises, falls,
 use Rattle.case_rules.specs.Said.{said}
 use Rattle.case_rules.specs.Among.{line_rules}
 use Rattle.netfile.specs.Built.{table_by, table_said, tables_from, tables_of}
-use Rattle.netfile.proofs.FieldLimits.{IsKept, IsLine, all_kept, field_kept, size_within, le_of, and_left, and_right, not_not}
+use Rattle.netfile.proofs.FieldLimits.{IsKept, IsLine, all_kept, field_kept, size_within}
+use Rattle.fixed_num.proofs.Orders.{less_of, at_most_of}
 
 -- so many fields make so many pairs
 record IsCount (least most n : ℕ) : Type 0 where
@@ -101,45 +102,42 @@ sorted_of : (kind : TableKind) (fields : List (List ℕ)) → 0 < pair_count (le
 unfolding is_ordered
 sorted_of kind fields some h =
     let n = pair_count (length fields) in
-    let f : follow kind fields n ≡ true = and_right (may_begin kind (pair_at kind fields 0)) (follow kind fields n) h in
+    let f : follow kind fields n ≡ true = (and_parts (may_begin kind (pair_at kind fields 0)) (follow kind fields n) h).1 in
     record {
-      begins = subst (λ e. may_begin kind e ≡ true) (sym (point_is kind fields 0 (pos 0, pos 0) some)) (and_left (may_begin kind (pair_at kind fields 0)) (follow kind fields n) h);
+      begins = subst (λ e. may_begin kind e ≡ true) (sym (point_is kind fields 0 (pos 0, pos 0) some)) (and_parts (may_begin kind (pair_at kind fields 0)) (follow kind fields n) h).0;
       follows = λ k l.
           let m : k + 1 < n = omega (arith, points_count kind fields) in
           rw (point_is kind fields k (pos 0, pos 0) (omega arith), point_is kind fields (k + 1) (pos 0, pos 0) m) (following kind fields n k (may_follow kind (pair_at kind fields k) (pair_at kind fields (k + 1))) refl m f);
     }
 
-lt_of : (x y : ℤ) → int_lt x y ≡ true → x <ℤ y
-lt_of x y h = grind (arith, ints)
-
 rising : (kind : TableKind) (e f : ℤ × ℤ) → may_follow kind e f ≡ true → rises kind e.0 f.0 ≡ true
 unfolding may_follow
-rising kind e f h = and_left (rises kind e.0 f.0) (falls kind e.1 f.1) h
+rising kind e f h = (and_parts (rises kind e.0 f.0) (falls kind e.1 f.1) h).0
 
 falling : (kind : TableKind) (e f : ℤ × ℤ) → may_follow kind e f ≡ true → falls kind e.1 f.1 ≡ true
 unfolding may_follow
-falling kind e f h = and_right (rises kind e.0 f.0) (falls kind e.1 f.1) h
+falling kind e f h = (and_parts (rises kind e.0 f.0) (falls kind e.1 f.1) h).1
 
 in_order : (kind : TableKind) (points : List (ℤ × ℤ)) → IsSorted kind points → IsInOrder kind points
-in_order Heads points s = λ k h. le_of _ _ (rising Heads (entry_at points k) (entry_at points (k + 1)) (s.follows k h))
-in_order Flows points s = λ k h. le_of _ _ (rising Flows (entry_at points k) (entry_at points (k + 1)) (s.follows k h))
-in_order Openings points s = λ k h. le_of _ _ (rising Openings (entry_at points k) (entry_at points (k + 1)) (s.follows k h))
-in_order Speeds points s = λ k h. le_of _ _ (rising Speeds (entry_at points k) (entry_at points (k + 1)) (s.follows k h))
+in_order Heads points s = λ k h. at_most_of _ _ (rising Heads (entry_at points k) (entry_at points (k + 1)) (s.follows k h))
+in_order Flows points s = λ k h. at_most_of _ _ (rising Flows (entry_at points k) (entry_at points (k + 1)) (s.follows k h))
+in_order Openings points s = λ k h. at_most_of _ _ (rising Openings (entry_at points k) (entry_at points (k + 1)) (s.follows k h))
+in_order Speeds points s = λ k h. at_most_of _ _ (rising Speeds (entry_at points k) (entry_at points (k + 1)) (s.follows k h))
 in_order Curve points s = (
   (Decides-int_eq (entry_at points 0).0 (pos 0)).0 s.begins,
-  λ k h. le_of _ _ (rising Curve (entry_at points k) (entry_at points (k + 1)) (s.follows k h)),
-  λ k h. lt_of _ _ (falling Curve (entry_at points k) (entry_at points (k + 1)) (s.follows k h)),
+  λ k h. at_most_of _ _ (rising Curve (entry_at points k) (entry_at points (k + 1)) (s.follows k h)),
+  λ k h. less_of _ _ (falling Curve (entry_at points k) (entry_at points (k + 1)) (s.follows k h)),
 )
 in_order Gas points s = (
-  λ k h. le_of _ _ (rising Gas (entry_at points k) (entry_at points (k + 1)) (s.follows k h)),
-  λ k h. lt_of _ _ (falling Gas (entry_at points k) (entry_at points (k + 1)) (s.follows k h)),
+  λ k h. at_most_of _ _ (rising Gas (entry_at points k) (entry_at points (k + 1)) (s.follows k h)),
+  λ k h. less_of _ _ (falling Gas (entry_at points k) (entry_at points (k + 1)) (s.follows k h)),
 )
 
 ordered_of : (kind : TableKind) (fields : List (List ℕ)) → is_disordered (OfTable kind) fields ≡ false → is_ordered kind fields ≡ true
 unfolding is_disordered
-ordered_of kind fields h = not_not (is_ordered kind fields) h
+ordered_of kind fields h = not-false (is_ordered kind fields) h
 
-least_some : (kind : TableKind) → 1 ≤ least_entries kind
+pub least_some : (kind : TableKind) → 1 ≤ least_entries kind
 least_some Heads = omega arith
 least_some Flows = omega arith
 least_some Openings = omega arith

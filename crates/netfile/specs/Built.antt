@@ -1,8 +1,10 @@
 -- The case that lines say: their values in file order, with names resolved and defaults filled in.
-use Rattle.std.specs.Prelude.{ℕ, ◌+◌, ℤ, pos, neg_ℤ, unsigned_abs, Option, Some, None, if◌then◌else◌, unwrap_or, List, [], ◌∷◌, codes}
+use Rattle.std.specs.Prelude.{ℕ, ◌==◌, ◌+◌, ℤ, pos, neg_ℤ, unsigned_abs, Option, Some, None, if◌then◌else◌, unwrap_or, List, [], ◌∷◌, codes}
 use Rattle.std.specs.List.{find, position_from, cons_option}
 use Rattle.std.specs.Str.{bytes_eq}
 use Rattle.case_model.specs.declared.cases.Case.{Case}
+use Rattle.case_model.specs.declared.cases.Friction.{Friction}
+use Rattle.case_model.specs.declared.cases.Friction.TheVariants.{Explicit}
 use Rattle.case_model.specs.declared.cases.Table.{Table}
 use Rattle.case_model.specs.declared.cases.Value.{Value}
 use Rattle.case_model.specs.declared.cases.Value.TheVariants.{Fixed, ByTable}
@@ -17,11 +19,12 @@ use Rattle.case_lines.specs.declared.words.NodeWord.TheVariants.{Reservoir, Junc
 use Rattle.case_lines.specs.declared.words.Directive.{Directive}
 use Rattle.case_lines.specs.declared.words.Directive.TheVariants.{OfSingle, OfTable, OfNode, OfPipe, OfProbe, OfWatch}
 use Rattle.case_lines.specs.declared.quantities.Quantity.{Quantity}
-use Rattle.case_lines.specs.declared.quantities.Quantity.TheVariants.{TimeStep, StepCount, VapourHead, GrowthWeight, SpeedTolerance, SampleStep, Head, Flow, Opening, SpeedRatio, Volume, Elevation, ValveFlow, ValveLoss, Area, Length, Diameter, WaveSpeed, Friction, PipePlace}
+use Rattle.case_lines.specs.declared.quantities.Quantity.TheVariants.{TimeStep, StepCount, VapourHead, GrowthWeight, SpeedTolerance, SampleStep, Head, Flow, Opening, SpeedRatio, Volume, Elevation, ValveFlow, ValveLoss, Area, Length, Diameter, WaveSpeed, FrictionFactor, PipePlace}
 use Rattle.case_lines.specs.Quantities.{amount}
 use Rattle.case_lines.specs.Fields.{field, is_marked, referred}
+use Rattle.case_lines.specs.Words.{friction_of}
 use Rattle.case_lines.specs.Tables.{pairs_of}
-use Rattle.case_rules.specs.Said.{said, is_single_of}
+use Rattle.case_rules.specs.Said.{version_of, said, is_single_of}
 
 -- what the line of a single directive gives, or the default where there is no such line
 abbrev pub given : Quantity → ℤ → Option (List (List ℕ)) → ℤ
@@ -30,6 +33,16 @@ given quantity default None = default
 
 unfoldable pub single_amount : List ℕ → Quantity → ℤ → List (List (List ℕ)) → ℤ
 single_amount word quantity default lines = given quantity default (find (is_single_of word) lines)
+
+-- how friction is taken by the line of its directive, or explicitly where there is no such line
+abbrev pub friction_by : Option (List (List ℕ)) → Friction
+friction_by (Some fields) = unwrap_or (friction_of (field fields 1)) Explicit
+friction_by None = Explicit
+
+-- the same of lines in a version; explicitly in version 1, which has no such directive
+unfoldable pub friction_from : ℕ → List (List (List ℕ)) → Friction
+friction_from version lines =
+    if version == 1 then Explicit else friction_by (find (is_single_of (codes "friction")) lines)
 
 -- the index of the table, the node or the pipe of this name; 0 where there is none, which the rule of
 -- unknown names refuses
@@ -105,7 +118,7 @@ pipe_of nodes line f = record {
   length = amount Length (field f 4);
   diameter = amount Diameter (field f 5);
   speed = amount WaveSpeed (field f 6);
-  friction = amount Friction (field f 7);
+  friction = amount FrictionFactor (field f 7);
   flow = amount Flow (field f 8);
 }
 
@@ -160,12 +173,14 @@ probes_of lines = probes_from (pipes_of lines) (nodes_of lines) 1 lines
 -- missing directives.
 unfoldable pub case_of : List (List (List ℕ)) → Case
 case_of lines = record {
+  version = version_of lines;
   dt = single_amount (codes "step") TimeStep (pos 0) lines;
   steps = unsigned_abs (single_amount (codes "steps") StepCount (pos 0) lines);
   vapour = single_amount (codes "vapour") VapourHead (neg_ℤ (pos 10_100_000)) lines;
   weight = single_amount (codes "weight") GrowthWeight (pos 10) lines;
   tolerance = single_amount (codes "tolerance") SpeedTolerance (pos 150) lines;
   every = unsigned_abs (single_amount (codes "every") SampleStep (pos 1) lines);
+  friction = friction_from (version_of lines) lines;
   tables = tables_of lines;
   nodes = nodes_of lines;
   pipes = pipes_of lines;

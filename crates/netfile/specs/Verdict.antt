@@ -1,9 +1,9 @@
 -- What a case text means: a case and its mesh, or its refusal.
-use Rattle.std.specs.Prelude.{ℕ, ◌+◌, nat_lt, Option, Some, None, Result, Ok, Err, if◌then◌else◌, List, [], ◌∷◌, length}
+use Rattle.std.specs.Prelude.{ℕ, ◌+◌, ◌<◌, ◌≤◌, ◌≡◌, ◌⊎◌, nat_lt, Option, Some, None, Result, Ok, Err, if◌then◌else◌, List, [], ◌∷◌, length}
 use Rattle.std.specs.List.{range_with_len}
 use Rattle.case_model.specs.declared.cases.Case.{Case}
 use Rattle.case_model.specs.declared.meshes.Mesh.{Mesh}
-use Rattle.case_model.specs.Sets.{Rules}
+use Rattle.case_model.specs.Sets.{Rules, AreEmpty, IsFirst}
 use Rattle.case_model.specs.Search.{Refusal, first_of}
 use Rattle.case_model.specs.Division.{mesh_of}
 use Rattle.case_model.specs.Refusals.{passes}
@@ -39,6 +39,17 @@ unfoldable pub verdict : List ℕ → Result (Case × Mesh) Refusal
 verdict bytes =
     if nat_lt 8_388_608 (length bytes) then Err too_long
     else judged (case_of (lines_of bytes)) (refusal_of (lines_of bytes))
+
+-- what the verdict on a text is: over 8 MiB it is refused as too long; else, where a pass has a
+-- broken rule, it is refused with the least one of the first such pass; else it means the case that
+-- its lines say, and the mesh of that case
+abbrev pub IsVerdict : List ℕ → Result (Case × Mesh) Refusal → Type 0
+IsVerdict bytes (Err r) =
+    ((8_388_608 < length bytes) × (r ≡ too_long))
+    ⊎ ((length bytes ≤ 8_388_608) × IsFirst (all_passes (lines_of bytes)) r.line r.number)
+IsVerdict bytes (Ok v) =
+    (length bytes ≤ 8_388_608) × AreEmpty (all_passes (lines_of bytes))
+    × (v.0 ≡ case_of (lines_of bytes)) × (v.1 ≡ mesh_of v.0)
 
 -- the refusal that a fault tells, if any
 abbrev pub refusal_in : CaseFault → Option Refusal

@@ -1,3 +1,4 @@
+//! The case that a text says.
 ghost use Rattle.std.specs.Prelude.{◌≡◌, ◌≤◌, ℕ, ℤ, pos, neg_ℤ, codes, IfOk, length};
 ghost use Rattle.std.specs.List.{AllByRecursion};
 ghost use Rattle.case_rules.specs.Said.{lines_of};
@@ -8,10 +9,11 @@ use crate::indices::{node_indices, pipe_indices, table_indices};
 use crate::nodes::nodes;
 use crate::pipes::pipes;
 use crate::probes::probes;
-use crate::singles::single_amount;
+use crate::singles::{friction_from, single_amount};
 use crate::tables::tables;
 use case_lines::Quantity;
-use case_model::{Case, Friction, List, Node, Pipe, Probe, Table};
+use case_model::{Case, List, Node, Pipe, Probe, Table};
+use case_rules::text_version;
 use std::alloc::{AllocError, Global};
 
 /// The case that a text says. Fails only for want of memory.
@@ -22,25 +24,27 @@ pub(crate) fn case_of(alloc: Global, bytes: &[u8]) -> Result<Case, AllocError>
     requires placed { AllByRecursion IsPlaced (lines_of bytes.now) }
     ensures { IfOk result (λ case. case ≡ case_said (lines_of bytes.now)) }
 {
+    let version = text_version(alloc, bytes)?;
     let dt = single_amount(alloc, bytes, b"step", Quantity::TimeStep, 0)?;
     let steps = single_amount(alloc, bytes, b"steps", Quantity::StepCount, 0)?;
     let vapour = single_amount(alloc, bytes, b"vapour", Quantity::VapourHead, -10_100_000)?;
     let weight = single_amount(alloc, bytes, b"weight", Quantity::GrowthWeight, 10)?;
     let tolerance = single_amount(alloc, bytes, b"tolerance", Quantity::SpeedTolerance, 150)?;
     let every = single_amount(alloc, bytes, b"every", Quantity::SampleStep, 1)?;
+    let friction = friction_from(alloc, bytes, version)?;
     let tables = tables(alloc, bytes)?;
     let nodes = nodes_on(alloc, bytes, &tables)?;
     let pipes = pipes_between(alloc, bytes, &nodes)?;
     let probes = probes_at(alloc, bytes, &pipes, &nodes)?;
     Ok(Case {
-        version: 1,
+        version,
         dt,
         steps: steps.unsigned_abs(),
         vapour,
         weight,
         tolerance,
         every: every.unsigned_abs(),
-        friction: Friction::Explicit,
+        friction,
         tables: List::over(tables),
         nodes: List::over(nodes),
         pipes: List::over(pipes),

@@ -1,3 +1,4 @@
+//! The indices of parts by their names.
 ghost use Rattle.std.specs.Prelude.{◌≡◌, ◌<◌, ◌^◌, ℕ, List as Items, IfOk, length};
 ghost use Rattle.case_model.specs.declared.cases.Table.{Table};
 ghost use Rattle.case_model.specs.declared.cases.Node.{Node};

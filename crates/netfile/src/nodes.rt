@@ -1,3 +1,4 @@
+//! The nodes that a text says.
 ghost use Rattle.std.specs.Prelude.{◌≡◌, ◌≤◌, List as Items, ℕ, IfOk, length, map};
 ghost use Rattle.std.specs.List.{AllByRecursion};
 ghost use Rattle.case_model.specs.declared.cases.Table.{Table};

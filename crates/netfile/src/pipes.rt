@@ -1,3 +1,4 @@
+//! The pipes that a text says.
 ghost use Rattle.std.specs.Prelude.{◌≡◌, ◌≤◌, List as Items, ℕ, IfOk, length, map};
 ghost use Rattle.std.specs.List.{AllByRecursion};
 ghost use Rattle.case_model.specs.declared.cases.Node.{Node};
@@ -68,7 +69,7 @@ fn pipe_of(indices: &HashMap<&[u8], u32>, line: u32, fields: &[&[u8]]) -> Pipe
         length: amount(Quantity::Length, field(fields, 4)),
         diameter: amount(Quantity::Diameter, field(fields, 5)),
         speed: amount(Quantity::WaveSpeed, field(fields, 6)),
-        friction: amount(Quantity::Friction, field(fields, 7)),
+        friction: amount(Quantity::FrictionFactor, field(fields, 7)),
         flow: amount(Quantity::Flow, field(fields, 8)),
     }
 }

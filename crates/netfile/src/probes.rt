@@ -1,3 +1,4 @@
+//! The probes and watches that a text says.
 ghost use Rattle.std.specs.Prelude.{◌≡◌, ◌≤◌, List as Items, ℕ, IfOk, length, map};
 ghost use Rattle.std.specs.List.{AllByRecursion};
 ghost use Rattle.case_model.specs.declared.cases.Node.{Node};

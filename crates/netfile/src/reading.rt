@@ -1,11 +1,12 @@
+//! The reader of the case text.
 ghost use Rattle.std.specs.Prelude.{◌≡◌, Ok, Err, IfOk, IfErr, IfSome};
 ghost use Rattle.case_model.specs.Accepted.{IsAccepted};
 ghost use Rattle.netfile.specs.Verdict.{verdict, refusal_in};
 
 use crate::building::case_of;
-use case_model::{Case, Mesh};
+use case_model::{Case, CaseFault, Mesh};
 use case_rules::{judge_counts, judge_lines};
-use reaches::{CaseFault, divide};
+use reaches::divide;
 use std::alloc::Global;
 
 /// The most bytes of a case text.
@@ -27,9 +28,7 @@ pub fn read_case(alloc: Global, bytes: &[u8]) -> Result<(Case, Mesh), CaseFault>
     }
     judge_lines(alloc, bytes)?;
     judge_counts(alloc, bytes)?;
-    let Ok(case) = case_of(alloc, bytes) else {
-        return Err(CaseFault::Memory);
-    };
+    let case = case_of(alloc, bytes)?;
     let mesh = divide(alloc, &case)?;
     Ok((case, mesh))
 }

@@ -1,11 +1,13 @@
-ghost use Rattle.std.specs.Prelude.{◌≡◌, ℤ, Some, None, ◌&&◌, IfOk, MatchOption, map};
+//! What the single directives of a text give.
+ghost use Rattle.std.specs.Prelude.{◌≡◌, ◌==◌, Option, Some, None, if◌then◌else◌, unwrap_or, codes, IfOk, map};
 ghost use Rattle.std.specs.List.{find};
-ghost use Rattle.case_rules.specs.Said.{lines_of, is_single as is_single_line, is_single_directive as is_single_word, is_single_of as is_single_line_of};
-ghost use Rattle.std.specs.Str.{bytes_eq};
-ghost use Rattle.netfile.specs.Built.{single_amount as amount_said};
+ghost use Rattle.case_lines.specs.Fields.{field};
+ghost use Rattle.case_rules.specs.Said.{lines_of, is_single_of};
+ghost use Rattle.netfile.specs.Built.{single_amount, friction_by, friction_from};
 
-use case_lines::{Directive, Quantity, amount, field};
-use case_rules::{next_line, said};
+use case_lines::{Quantity, amount, field, friction_of};
+use case_model::Friction;
+use case_rules::{is_single_of, next_line};
 use std::alloc::{AllocError, Global};
 
 /// What the first line of a single directive gives, or the default where there is no such line.
@@ -18,7 +20,7 @@ pub(crate) fn single_amount(
     quantity: Quantity,
     default: i64,
 ) -> Result<i64, AllocError>
-    ensures { IfOk result (λ x. x ≡ amount_said word.now quantity default (lines_of bytes.now)) }
+    ensures { IfOk result (λ x. x ≡ single_amount word.now quantity default (lines_of bytes.now)) }
 {
     let mut rest = bytes;
     'lines: while let Some((fields, others)) = next_line(alloc, rest)? {
@@ -30,24 +32,31 @@ pub(crate) fn single_amount(
     Ok(default)
 }
 
-// Whether a line has the single directive of this word.
-#[tactic(auto, unfolding(case_rules::specs::Said::is_single_of, case_rules::specs::Said::is_single))]
-fn is_single_of(word: &[u8], fields: &[&[u8]]) -> bool
-    ensures { result ≡ is_single_line_of word.now (map (λ f. f.now) fields.now) }
+/// How friction is taken, by the version of the text. Fails only for want of memory.
+#[tactic(auto, unfolding(crate::specs::Built::friction_from))]
+pub(crate) fn friction_from(
+    alloc: Global,
+    bytes: &[u8],
+    version: u8,
+) -> Result<Friction, AllocError>
+    ensures { IfOk result (λ x. x ≡ friction_from version (lines_of bytes.now)) }
 {
-    is_single_directive(said(fields)) && field(fields, 0) == word
+    if version == 1 {
+        return Ok(Friction::Explicit);
+    }
+    friction_said(alloc, bytes)
 }
 
-fn is_single_directive(directive: Option<Directive>) -> bool
-    ensures { result ≡ is_single_word directive }
+// How friction is taken by the first line of its directive, or explicitly where there is none.
+fn friction_said(alloc: Global, bytes: &[u8]) -> Result<Friction, AllocError>
+    ensures { IfOk result (λ x. x ≡ friction_by (find (is_single_of (codes "friction")) (lines_of bytes.now))) }
 {
-    match directive {
-        Some(Directive::OfSingle(_)) => true,
-        Some(Directive::OfTable(_)) => false,
-        Some(Directive::OfNode(_)) => false,
-        Some(Directive::OfPipe) => false,
-        Some(Directive::OfProbe) => false,
-        Some(Directive::OfWatch) => false,
-        None => false,
+    let mut rest = bytes;
+    'lines: while let Some((fields, others)) = next_line(alloc, rest)? {
+        if is_single_of(b"friction", &fields) {
+            return Ok(friction_of(field(&fields, 1)).unwrap_or(Friction::Explicit));
+        }
+        rest = others;
     }
+    Ok(Friction::Explicit)
 }

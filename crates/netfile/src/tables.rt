@@ -1,3 +1,4 @@
+//! The tables that a text says.
 ghost use Rattle.std.specs.Prelude.{◌≡◌, ◌≤◌, ◌+◌, ◌++◌, ◌/◌, ◌-◌, [], IfOk, length, map};
 ghost use Rattle.std.specs.List.{cons_option, range_with_len, AllByRecursion};
 ghost use Rattle.case_lines.specs.Tables.{pairs_of};

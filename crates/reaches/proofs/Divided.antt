@@ -1,18 +1,12 @@
 -- What holds of a pipe that can be divided.
 use Rattle.std.proofs.Common.{◌≡◌, ℕ, ◌≤◌, ◌==◌, ◌&&◌, not, Bool, true, false, ℤ, pos, ◌≤ℤ◌, int_le, refl, arith}
+use Rattle.std.proofs.lemmas.Bool.{and_parts}
 use Rattle.std.proofs.lemmas.Int.{ints}
 use Rattle.std.proofs.lemmas.Bool.Decides.{nat_tests}
 use Rattle.case_model.specs.declared.cases.Pipe.{Pipe}
 use Rattle.case_model.specs.Formulas.{cut, reach_count, b_of, r_of}
 use Rattle.case_model.specs.Division.{is_count, is_adjusted, are_accepted, has_coefficients, is_divided}
-
-pub and_left : (a b : Bool) → (a && b) ≡ true → a ≡ true
-and_left true b h = refl
-and_left false b h = h
-
-pub and_right : (a b : Bool) → (a && b) ≡ true → b ≡ true
-and_right true b h = h
-and_right false b h = absurd (grind arith)
+use Rattle.fixed_num.proofs.Orders.{at_most_of}
 
 -- a count of reaches, an impedance and a friction that are accepted
 pub record IsAccepted (n : ℕ) (b r : ℤ) : Type 0 where
@@ -26,9 +20,6 @@ pub record IsAccepted (n : ℕ) (b r : ℤ) : Type 0 where
 kept : (most x : ℤ) → int_le x most ≡ true → cut most x ≡ x
 kept most x h = rw h refl
 
-le_of : (x y : ℤ) → int_le x y ≡ true → x ≤ℤ y
-le_of x y h = grind (arith, ints)
-
 pub accepted : (n : ℕ) (b r : ℤ) → is_count n ≡ true → are_accepted b r ≡ true → IsAccepted n b r
 unfolding are_accepted
 accepted n b r h k =
@@ -36,15 +27,15 @@ accepted n b r h k =
     let b2 = int_le b (pos 10_000_000_000_000) in
     let r1 = int_le (pos 0) r in
     let r2 = int_le r (pos 100_000_000_000_000_000_000) in
-    let k3 : (b1 && b2 && r1) ≡ true = and_left (b1 && b2 && r1) r2 k in
-    let k2 : (b1 && b2) ≡ true = and_left (b1 && b2) r1 k3 in
+    let k3 : (b1 && b2 && r1) ≡ true = (and_parts (b1 && b2 && r1) r2 k).0 in
+    let k2 : (b1 && b2) ≡ true = (and_parts (b1 && b2) r1 k3).0 in
     record {
       some = grind (arith, nat_tests);
       few = grind (arith, nat_tests);
-      b_low = le_of (pos 100_000) b (and_left b1 b2 k2);
-      b_high = le_of b (pos 10_000_000_000_000) (and_right b1 b2 k2);
-      b_cut = kept (pos 10_000_000_000_000) b (and_right b1 b2 k2);
-      r_cut = kept (pos 100_000_000_000_000_000_000) r (and_right (b1 && b2 && r1) r2 k);
+      b_low = at_most_of (pos 100_000) b ((and_parts b1 b2 k2).0);
+      b_high = at_most_of b (pos 10_000_000_000_000) ((and_parts b1 b2 k2).1);
+      b_cut = kept (pos 10_000_000_000_000) b ((and_parts b1 b2 k2).1);
+      r_cut = kept (pos 100_000_000_000_000_000_000) r ((and_parts (b1 && b2 && r1) r2 k).1);
     }
 
 pub divided : (dt tolerance : ℤ) (p : Pipe) → is_divided dt tolerance p ≡ true → IsAccepted (reach_count dt p) (b_of dt (reach_count dt p) p) (r_of (reach_count dt p) p)
@@ -52,6 +43,6 @@ unfolding has_coefficients
 divided dt tolerance p h =
     let n = reach_count dt p in
     let apart = not (p.first == p.last) in
-    let t3 : (apart && is_count n && is_adjusted dt tolerance n p) ≡ true = and_left (apart && is_count n && is_adjusted dt tolerance n p) (has_coefficients dt n p) h in
-    let t2 : (apart && is_count n) ≡ true = and_left (apart && is_count n) (is_adjusted dt tolerance n p) t3 in
-    accepted n (b_of dt n p) (r_of n p) (and_right apart (is_count n) t2) (and_right (apart && is_count n && is_adjusted dt tolerance n p) (has_coefficients dt n p) h)
+    let t3 : (apart && is_count n && is_adjusted dt tolerance n p) ≡ true = (and_parts (apart && is_count n && is_adjusted dt tolerance n p) (has_coefficients dt n p) h).0 in
+    let t2 : (apart && is_count n) ≡ true = (and_parts (apart && is_count n) (is_adjusted dt tolerance n p) t3).0 in
+    accepted n (b_of dt n p) (r_of n p) ((and_parts apart (is_count n) t2).1) ((and_parts (apart && is_count n && is_adjusted dt tolerance n p) (has_coefficients dt n p) h).1)

@@ -2,6 +2,7 @@
 use Rattle.std.proofs.Common.{◌≡◌, ℕ, zero, suc, ◌+◌, ◌||◌, Bool, true, false, Option, Some, None, refl, ap, subst, sym, ◌∙◌, add-one, arith}
 use Rattle.std.specs.List.{list_any, range_with_len}
 use Rattle.reaches.specs.declared.refusal.Refusal.{Refusal}
+use Rattle.case_model.proofs.Sets.{any_next}
 use Rattle.case_model.specs.Sets.{Rules, IsLeast, either, any_below}
 use Rattle.reaches.specs.Told.{Tells}
 
@@ -15,24 +16,6 @@ told_same some others (Some r) e f = record {
   broken = sym (e r.line r.number) ∙ f.broken;
   least = λ l n h. f.least l n (e l n ∙ h);
 }
-
-or_assoc : (a b c : Bool) → (a || (b || c)) ≡ ((a || b) || c)
-or_assoc true b c = refl
-or_assoc false b c = refl
-
-or_false : (a : Bool) → (a || false) ≡ a
-or_false true = refl
-or_false false = refl
-
-any_suc : (p : ℕ → Bool) (a n : ℕ) → list_any p (range_with_len a (suc n)) ≡ (list_any p (range_with_len a n) || p (a + n))
-any_suc p a zero = or_false (p a) ∙ ap p (omega arith)
-any_suc p a (suc n) =
-    ap (λ (b : Bool). p a || b) (any_suc p (a + 1) n ∙ ap (λ (k : ℕ). list_any p (range_with_len (a + 1) n) || p k) (omega arith))
-    ∙ or_assoc (p a) (list_any p (range_with_len (a + 1) n)) (p (a + suc n))
-
-pub any_next : (rules : ℕ → Rules) (n : ℕ) (line number : ℕ) → either (any_below rules n) (rules n) line number ≡ any_below rules (n + 1) line number
-unfolding any_below
-any_next rules n line number = rw add-one (sym (any_suc (λ k. rules k line number) 0 n ∙ ap (λ (k : ℕ). list_any (λ k. rules k line number) (range_with_len 0 n) || rules k line number) (omega arith)))
 
 pub told_more : (rules : ℕ → Rules) (n : ℕ) (o : Option Refusal) → Tells (either (any_below rules n) (rules n)) o → Tells (any_below rules (n + 1)) o
 told_more rules n o f = told_same (either (any_below rules n) (rules n)) (any_below rules (n + 1)) o (any_next rules n) f

@@ -1,7 +1,7 @@
 -- A case without refusal: each pipe is divided, and the mesh is one in which rows can be computed.
 use Rattle.std.proofs.Common.{◌≡◌, ℕ, zero, suc, ◌+◌, ◌<◌, inl, inr, ◌==◌, ◌&&◌, ◌||◌, not, Bool, true, false, ℤ, pos, List, [], ◌∷◌, ◌++◌, length, map, refl, ap, subst, sym, ◌∙◌, add-one, arith}
 use Rattle.std.specs.List.{range_with_len}
-use Rattle.std.proofs.lemmas.Bool.{cases_lt, eq-eqb, eqb-true}
+use Rattle.std.proofs.lemmas.Bool.{and_parts, cases_lt, eq-eqb, eqb-true}
 use Rattle.std.proofs.lemmas.List.Sums.{sum_by_more}
 use Rattle.std.proofs.lemmas.List.FromFn.{map-range_with_len_more}
 use Rattle.case_model.specs.declared.cases.Case.{Case}
@@ -12,41 +12,7 @@ use Rattle.case_model.specs.Formulas.{reach_count, cut, b_of, r_of}
 use Rattle.case_model.specs.Parts.{pipe_at, no_pipe}
 use Rattle.case_model.specs.Division.{is_count, is_adjusted, has_coefficients, divides, place_base, reaches_at, pipe_mesh}
 use Rattle.case_model.specs.Refusals.{breaks_pipe, pipe_rules, node_rules, probe_rules, part_rules, is_too_large, size_rules}
-use Rattle.reaches.proofs.Least.{any_next}
-use Rattle.reaches.proofs.Divided.{and_left, and_right, divided}
-
-or_left : (a b : Bool) → a ≡ true → (a || b) ≡ true
-or_left true b h = refl
-or_left false b h = absurd (grind arith)
-
-pub or_right : (a b : Bool) → b ≡ true → (a || b) ≡ true
-or_right true b h = refl
-or_right false b h = h
-
-in_any : (rules : ℕ → Rules) (n k l m : ℕ) → k < n → rules k l m ≡ true → any_below rules n l m ≡ true
-in_any rules zero k l m h t = absurd (omega arith)
-in_any rules (suc n) k l m h t =
-    ap (λ (i : ℕ). any_below rules i l m) (sym (add-one n)) ∙ sym (any_next rules n l m) ∙ elim (cases_lt k n) [
-      | inl b ↦ or_left (any_below rules n l m) (rules n l m) (in_any rules n k l m b t)
-      | inr b ↦ or_right (any_below rules n l m) (rules n l m) (let e : k ≡ n = omega arith in subst (λ (i : ℕ). rules i l m ≡ true) e t)
-    ]
-
-unbroken : (a b c d : Bool) → ((n : ℕ) → (((n == 11) && a) || ((n == 12) && not b) || ((n == 13) && b && not c) || ((n == 15) && b && not d)) ≡ true → ⊥) → (not a && b && c && d) ≡ true
-unbroken true b c d h = absurd (h 11 refl)
-unbroken false false c d h = absurd (h 12 refl)
-unbroken false true false d h = absurd (h 13 refl)
-unbroken false true true false h = absurd (h 15 refl)
-unbroken false true true true h = refl
-
--- where no rule of single parts is broken, each pipe is divided
-pub all_divided : (case : Case) → IsEmpty (part_rules case) → (p : ℕ) → p < length case.pipes → divides case p ≡ true
-unfolding part_rules divides breaks_pipe
-all_divided case empty p h =
-    let q = pipe_at case p in
-    let n = reach_count case.dt q in
-    unbroken (q.first == q.last) (is_count n) (is_adjusted case.dt case.tolerance n q) (has_coefficients case.dt n q) (λ number t. empty q.line number
-    (or_left _ (any_below (probe_rules case) (length case.probes) q.line number) (or_left _ (any_below (node_rules case) (length case.nodes) q.line number)
-    (in_any (pipe_rules case) (length case.pipes) p q.line number h (rw (eq-eqb q.line q.line refl) t)))))
+use Rattle.reaches.proofs.Divided.{divided}
 
 -- the base of one pipe more
 pub base_more : (case : Case) (p : ℕ) → p < length case.pipes → place_base case (p + 1) ≡ place_base case p + (reaches_at case p + 1)
@@ -73,22 +39,19 @@ pub reaches_of_mesh : (case : Case) (p : ℕ) → (pipe_mesh case p).reaches ≡
 unfolding pipe_mesh
 reaches_of_mesh case p = refl
 
-pub listed_more : {X : Type 0} (f : ℕ → X) (n : ℕ) (xs ys : List X) (x : X) → xs ≡ map f (range_with_len 0 n) → ys ≡ xs ++ x ∷ [] → x ≡ f n → ys ≡ map f (range_with_len 0 (n + 1))
-listed_more f n xs ys x h e i = e ∙ ap (λ l. l ++ x ∷ []) h ∙ ap (λ y. map f (range_with_len 0 n) ++ y ∷ []) i ∙ sym (map-range_with_len_more f 0 n n (omega arith))
-
 -- too many places or samples are refused, on no line
 pub too_large : (case : Case) → is_too_large case ≡ true → IsLeast (size_rules case) 0 10
 unfolding size_rules
 too_large case h = record {
   broken = h;
   least = λ l n t.
-      let line : 0 ≡ l = eqb-true 0 l (and_left (0 == l) ((n == 10) && is_too_large case) t) in
-      let number : n ≡ 10 = eqb-true n 10 (and_left (n == 10) (is_too_large case) (and_right (0 == l) ((n == 10) && is_too_large case) t)) in
+      let line : 0 ≡ l = eqb-true 0 l ((and_parts (0 == l) ((n == 10) && is_too_large case) t).0) in
+      let number : n ≡ 10 = eqb-true n 10 ((and_parts (n == 10) (is_too_large case) ((and_parts (0 == l) ((n == 10) && is_too_large case) t).1)).0) in
       inr (line, omega arith);
 }
 
 pub not_too_large : (case : Case) → is_too_large case ≡ false → IsEmpty (size_rules case)
 unfolding size_rules
 not_too_large case h = λ l n t.
-    let large : is_too_large case ≡ true = and_right (n == 10) (is_too_large case) (and_right (0 == l) ((n == 10) && is_too_large case) t) in
+    let large : is_too_large case ≡ true = (and_parts (n == 10) (is_too_large case) ((and_parts (0 == l) ((n == 10) && is_too_large case) t).1)).1 in
     let e : false ≡ true = sym h ∙ large in cc

@@ -17,7 +17,7 @@ window_of mesh wish = least_reaches wish mesh.pipes
 unfoldable pub windows_of : ℕ → ℕ → ℕ
 windows_of w steps = (steps + (w - 1)) / w
 
--- the count of sections of a pipe with n reaches: each is to have at least w reaches, and at least 2
+-- the count of sections of a pipe with n reaches: each is to have at least w reaches, and 2
 unfoldable pub sections : ℕ → ℕ → ℕ
 sections w n = max 1 (n / max 2 w)
 

@@ -7,7 +7,8 @@ use Rattle.regions.specs.declared.shapes.TheConstants.{WIDEST_WINDOW}
 use Rattle.regions.specs.declared.shapes.Layout.{Layout}
 use Rattle.regions.specs.Layouts.{layout_of}
 
--- the layout is a cut of this mesh for the steps of this case, which division accepts with this mesh
+-- the layout is a cut of this mesh for the steps of this case; division accepts the case, and the
+-- mesh is its own
 pub record IsCutFor (case : Case) (layout : Layout) (mesh : Mesh) : Type 0 where
   pub accepted : IsAccepted case mesh
   pub wish : ℕ

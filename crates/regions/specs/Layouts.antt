@@ -15,7 +15,8 @@ sections_at mesh w p = sections w (reaches mesh p)
 
 -- how many seams and sections the pipes before pipe p have
 unfoldable pub seams_before : Mesh → ℕ → ℕ → ℕ
-seams_before mesh w p = sum_by (λ (pipe : PipeMesh). sections w pipe.reaches - 1) (take p mesh.pipes)
+seams_before mesh w p =
+    sum_by (λ (pipe : PipeMesh). sections w pipe.reaches - 1) (take p mesh.pipes)
 
 unfoldable pub sections_before : Mesh → ℕ → ℕ → ℕ
 sections_before mesh w p = sum_by (λ (pipe : PipeMesh). sections w pipe.reaches) (take p mesh.pipes)
@@ -26,21 +27,27 @@ seam_number mesh w p j = length mesh.ends + seams_before mesh w p + (j - 1)
 
 -- the number of section j of pipe p: behind the nodes and all seams
 unfoldable pub section_number : Mesh → ℕ → ℕ → ℕ → ℕ
-section_number mesh w p j = length mesh.ends + seams_before mesh w (length mesh.pipes) + sections_before mesh w p + j
+section_number mesh w p j = length mesh.ends + seams_before mesh w (length mesh.pipes)
+    + sections_before mesh w p + j
 
 -- the station at cut c of pipe p: a node at both ends of the pipe, and a seam elsewhere
 unfoldable pub station_number : Mesh → ℕ → ℕ → ℕ → ℕ
 station_number mesh w p c =
-    if c == 0 then end_node mesh p false else if c == sections_at mesh w p then end_node mesh p true else seam_number mesh w p c
+    if c == 0 then end_node mesh p false
+    else if c == sections_at mesh w p then end_node mesh p true
+    else seam_number mesh w p c
 
 -- the seam in which section j of pipe p ends
 abbrev pub seam_shape : Mesh → ℕ → ℕ → ℕ → Shape
-seam_shape mesh w p j = OfSeam p (cut w (reaches mesh p) (j + 1)) (section_number mesh w p j) (section_number mesh w p (j + 1))
+seam_shape mesh w p j =
+    OfSeam p (cut w (reaches mesh p) (j + 1))
+    (section_number mesh w p j) (section_number mesh w p (j + 1))
 
 -- section j of pipe p
 abbrev pub section_shape : Mesh → ℕ → ℕ → ℕ → Shape
 section_shape mesh w p j =
-    OfSection p (cut w (reaches mesh p) j) (section_reaches w (reaches mesh p) j) (station_number mesh w p j) (station_number mesh w p (j + 1))
+    OfSection p (cut w (reaches mesh p) j) (section_reaches w (reaches mesh p) j)
+    (station_number mesh w p j) (station_number mesh w p (j + 1))
 
 -- the seams and the sections of pipe p, in order of place
 abbrev pub seams_of : Mesh → ℕ → ℕ → List Shape

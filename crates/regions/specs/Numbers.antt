@@ -5,7 +5,8 @@ use Rattle.case_model.specs.Mesh.{end_node}
 use Rattle.regions.specs.declared.numbers.Cuts.{Cuts}
 use Rattle.regions.specs.Layouts.{sections_at, seams_before, section_number}
 
--- the count of a pipe's sections, the nodes at its ends, and the numbers of its first seam and its first section
+-- the count of a pipe's sections, the nodes at its ends, and the numbers of its first seam and its
+-- first section
 pub record IsCutsOf (mesh : Mesh) (w p : ℕ) (cuts : Cuts) : Type 0 where
   pub count : cuts.count ≡ sections_at mesh w p
   pub first : cuts.first ≡ end_node mesh p false

@@ -37,7 +37,8 @@ sides_in mesh (OfSection pipe place count left right) = 2
 
 -- the section at an end of a pipe
 abbrev pub section_at_end : Mesh → ℕ → End → ℕ
-section_at_end mesh w e = section_number mesh w e.pipe (if e.at_last then sections_at mesh w e.pipe - 1 else 0)
+section_at_end mesh w e =
+    section_number mesh w e.pipe (if e.at_last then sections_at mesh w e.pipe - 1 else 0)
 
 -- the neighbour at index j
 abbrev pub side_in : Mesh → ℕ → ℕ → Shape → ℕ
@@ -45,8 +46,8 @@ side_in mesh w j (OfNode node) = section_at_end mesh w (end_at mesh node j)
 side_in mesh w j (OfSeam pipe place left right) = if j == 0 then left else right
 side_in mesh w j (OfSection pipe place count left right) = if j == 0 then left else right
 
--- which side of a station the section of pipe p is that ends there, at its last place or at place 0; the shape is
--- the station's
+-- which side of a station the section of pipe p is that ends there, at its last place or at place
+-- 0; the shape is the station's
 abbrev pub side_of_station : Mesh → ℕ → Bool → Shape → ℕ
 side_of_station mesh p last (OfNode node) = end_index mesh p last
 side_of_station mesh p last (OfSeam pipe place left right) = if last then 0 else 1
@@ -57,7 +58,9 @@ abbrev pub back_in : Layout → Mesh → ℕ → Shape → ℕ
 back_in layout mesh j (OfNode node) = if (end_at mesh node j).at_last then 1 else 0
 back_in layout mesh j (OfSeam pipe place left right) = if j == 0 then 1 else 0
 back_in layout mesh j (OfSection pipe place count left right) =
-    if j == 0 then side_of_station mesh pipe false (shape_at layout left) else side_of_station mesh pipe true (shape_at layout right)
+    if j == 0
+    then side_of_station mesh pipe false (shape_at layout left)
+    else side_of_station mesh pipe true (shape_at layout right)
 
 -- how many neighbours strand x has
 unfoldable pub sides_of : Layout → Mesh → ℕ → ℕ
@@ -71,15 +74,23 @@ side_of layout mesh x j = side_in mesh layout.window j (shape_at layout x)
 unfoldable pub back_of : Layout → Mesh → ℕ → ℕ → ℕ
 back_of layout mesh x j = back_in layout mesh j (shape_at layout x)
 
--- neighbours are neighbours of one another, of the other kind, at the index that each has for the other
+-- neighbours are neighbours of one another, of the other kind, at the index that each has for the
+-- other
 pub record AreMutual (layout : Layout) (mesh : Mesh) : Type 0 where
-  pub inside : (x j : ℕ) → x < length layout.shapes → j < sides_of layout mesh x → side_of layout mesh x j < length layout.shapes
-  pub index : (x j : ℕ) → x < length layout.shapes → j < sides_of layout mesh x → back_of layout mesh x j < sides_of layout mesh (side_of layout mesh x j)
-  pub again : (x j : ℕ) → x < length layout.shapes → j < sides_of layout mesh x → side_of layout mesh (side_of layout mesh x j) (back_of layout mesh x j) ≡ x
-  pub twice : (x j : ℕ) → x < length layout.shapes → j < sides_of layout mesh x → back_of layout mesh (side_of layout mesh x j) (back_of layout mesh x j) ≡ j
-  pub kinds : (x j : ℕ) → x < length layout.shapes → j < sides_of layout mesh x → is_section layout (side_of layout mesh x j) ≡ not (is_section layout x)
+  pub inside : (x j : ℕ) → x < length layout.shapes → j < sides_of layout mesh x
+      → side_of layout mesh x j < length layout.shapes
+  pub index : (x j : ℕ) → x < length layout.shapes → j < sides_of layout mesh x
+      → back_of layout mesh x j < sides_of layout mesh (side_of layout mesh x j)
+  pub again : (x j : ℕ) → x < length layout.shapes → j < sides_of layout mesh x
+      → side_of layout mesh (side_of layout mesh x j) (back_of layout mesh x j) ≡ x
+  pub twice : (x j : ℕ) → x < length layout.shapes → j < sides_of layout mesh x
+      → back_of layout mesh (side_of layout mesh x j) (back_of layout mesh x j) ≡ j
+  pub kinds : (x j : ℕ) → x < length layout.shapes → j < sides_of layout mesh x
+      → is_section layout (side_of layout mesh x j) ≡ not (is_section layout x)
 
 -- each end in a node's list is found there again
 pub record IsWired (mesh : Mesh) : Type 0 where
-  pub node : (k j : ℕ) → k < length mesh.ends → j < length (ends_of mesh k) → end_node mesh (end_at mesh k j).pipe (end_at mesh k j).at_last ≡ k
-  pub index : (k j : ℕ) → k < length mesh.ends → j < length (ends_of mesh k) → end_index mesh (end_at mesh k j).pipe (end_at mesh k j).at_last ≡ j
+  pub node : (k j : ℕ) → k < length mesh.ends → j < length (ends_of mesh k)
+      → end_node mesh (end_at mesh k j).pipe (end_at mesh k j).at_last ≡ k
+  pub index : (k j : ℕ) → k < length mesh.ends → j < length (ends_of mesh k)
+      → end_index mesh (end_at mesh k j).pipe (end_at mesh k j).at_last ≡ j

@@ -5,8 +5,9 @@ ghost use Rattle.regions.specs.Blocks.{block_point_of, section_point as section_
 use crate::{Layout, Shape};
 
 impl Layout {
-    /// Point `index` of a strand's blocks for one of its sides: its distance from the station there, and its
-    /// count of steps after the start of the block's window. All sides have the same order.
+    /// Point `index` of a strand's blocks for one of its sides: its distance from the station
+    /// there, and its count of steps after the start of the block's window. All sides have the same
+    /// order.
     #[tactic(auto, unfolding(crate::specs::Blocks::block_point_of))]
     pub fn block_point(&self, strand: u32, _side: u32, index: u64) -> (u64, u64)
         requires inside { strand < length self.now.shapes }
@@ -29,7 +30,8 @@ fn section_point(window: u64, index: u64) -> (u64, u64)
     (index / 2 + 1, index.div_ceil(2))
 }
 
-// Two points at each distance from 0 on, the earlier first; the last is always the later one of its distance.
+// Two points at each distance from 0 on, the earlier first; the last is always the later one of its
+// distance.
 fn station_point(window: u64, index: u64) -> (u64, u64)
     requires { index < window }
     ensures { result ≡ station_is window index }

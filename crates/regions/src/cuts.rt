@@ -49,7 +49,8 @@ pub(crate) fn section_reaches(window: u64, reaches: u32, index: u32) -> u32
     reaches / count + extra
 }
 
-/// The place where the next section begins, of the place where section `index` of such a pipe begins.
+/// The place where the next section begins, of the place where section `index` of such a pipe
+/// begins.
 pub(crate) fn next_cut(window: u64, reaches: u32, index: u32, place: u32) -> u32
     requires two { 2 ≤ reaches }
     requires index { index < sections_are window reaches }

@@ -14,8 +14,8 @@ use crate::{Layout, Shape, WIDEST_WINDOW};
 use case_model::{Case, List, Mesh};
 use std::alloc::{AllocError, Global};
 
-/// The strands of the mesh of an accepted case, and its windows of at most `wish` steps that hold all
-/// steps of the case. The error is want of memory.
+/// The strands of the mesh of an accepted case, and its windows of at most `wish` steps that hold
+/// all steps of the case. The error is want of memory.
 #[tactic(auto, unfolding(crate::specs::Layouts::layout_of, crate::specs::Layouts::shapes_of))]
 pub fn layout(alloc: Global, case: &Case, mesh: &Mesh, wish: u64) -> Result<Layout, AllocError>
     requires accepted { IsAccepted case.now mesh.now }
@@ -115,7 +115,8 @@ fn add_pipe_sections(
     requires mesh { IsMesh mesh.now }
     requires limits { IsLimited mesh.now }
     requires inside { pipe < length mesh.now.pipes }
-    ensures { OnOk result (shapes.new.items ≡ shapes.old.items ++ sections_of mesh.now window pipe) }
+    ensures { OnOk result (
+        shapes.new.items ≡ shapes.old.items ++ sections_of mesh.now window pipe) }
 {
     let all = mesh.pipes.as_slice()[pipe as usize].reaches;
     let cuts = cuts_of(mesh, window, pipe);

@@ -94,7 +94,8 @@ impl Cuts {
     pub(crate) fn station(&self, cut: u32) -> u32
         requires inside { cut ≤ self.now.count }
         requires few { AreFew self.now }
-        ensures { (mesh : MeshSeen) (w p : ℕ) → IsCutsOf mesh w p self.now → result ≡ station_is mesh w p cut }
+        ensures { (mesh : MeshSeen) (w p : ℕ) → IsCutsOf mesh w p self.now →
+            result ≡ station_is mesh w p cut }
     {
         if cut == 0 {
             self.first
@@ -109,7 +110,8 @@ impl Cuts {
     pub(crate) fn section(&self, index: u32) -> u32
         requires inside { index < self.now.count }
         requires few { AreFew self.now }
-        ensures { (mesh : MeshSeen) (w p : ℕ) → IsCutsOf mesh w p self.now → result ≡ section_is mesh w p index }
+        ensures { (mesh : MeshSeen) (w p : ℕ) → IsCutsOf mesh w p self.now →
+            result ≡ section_is mesh w p index }
     {
         self.section + index
     }

@@ -26,8 +26,8 @@ impl Layout {
         }
     }
 
-    /// The neighbour of a strand at this index, by number: of a node the section at that end, of others
-    /// the left and then the right one.
+    /// The neighbour of a strand at this index, by number: of a node the section at that end, of
+    /// others the left and then the right one.
     #[tactic(auto, unfolding(crate::specs::Sides::side_of, crate::specs::Sides::sides_of))]
     pub fn side(&self, mesh: &Mesh, strand: u32, index: u32) -> u32
         requires inside { strand < length self.now.shapes }
@@ -78,7 +78,8 @@ impl Layout {
         }
     }
 
-    // Which side of a station the section of this pipe is that ends there, at its last place or its first.
+    // Which side of a station the section of this pipe is that ends there, at its last place or its
+    // first.
     fn side_of_station(&self, mesh: &Mesh, pipe: u32, last: bool, station: u32) -> u32
         requires { IsLimited mesh.now }
         ensures { result ≡ side_is mesh.now pipe last (shape_is self.now station) }

@@ -1,9 +1,11 @@
 -- Lists that are kept in memory, and the rows that they hold.
-use Rattle.std.specs.Prelude.{◌≡◌, ℕ, zero, suc, ◌+◌, ◌-◌, ◌<◌, ◌≤◌, Bool, true, false, cond, List, [], ◌∷◌, ◌++◌, length, map, take, drop, replicate, get_or, set, refl, Option, Some, None, position}
+use Rattle.std.specs.Prelude.{◌≡◌, ℕ, zero, suc, ◌+◌, ◌-◌, ◌<◌, ◌≤◌, Bool, true, false, cond, List, [], ◌∷◌, ◌++◌, length, map, take, drop, replicate, get_or, set, refl, Option, Some, None, IfSome, position}
 use Rattle.std.specs.List.{All, AllByRecursion, range_with_len}
 use Rattle.std.specs.Option.{option_map}
-use Rattle.std.proofs.Common.{inl, inr, ◌∙◌, ap, sym, subst, arith, add-one}
-use Rattle.std.proofs.lemmas.List.{length-replicate, length-set, get_or-set_same, get_or-set_other}
+use Rattle.std.proofs.Common.{inl, inr, ◌⊎◌, ◌∙◌, ap, sym, subst, arith, add-one}
+use Rattle.std.proofs.lemmas.List.{length-append, length-drop, length-replicate, length-set, length-take-le, get_or-append_right, get_or-set_same, get_or-set_other, get_or_append_left, take_all, take_more_set}
+use Rattle.std.proofs.lemmas.Slice.{take-put_mid}
+use borrow.Rule.Slice.PartMut.{put_mid, same_len_mid}
 use Rattle.std.proofs.lemmas.Bool.Decides.{eqb_tells, leb_tells}
 use Rattle.std.proofs.lemmas.List.FromFn.{get_or-map-range_with_len, length-map-range_with_len}
 use Rattle.std.proofs.lemmas.List.Folds.{flat_map-map}
@@ -14,12 +16,13 @@ use Rattle.case_model.specs.declared.points.Point.TheVariants.{Bad}
 use Rattle.case_model.specs.declared.states.NodeState.{NodeState}
 use Rattle.case_model.specs.FirstFault.{row_fault, earlier_or, first_fault}
 use Rattle.case_model.specs.Meaning.{Meaning, IsMeaning}
-use Rattle.case_model.specs.Mesh.{IsMesh, places_before, reaches, ends_of, next_to, end_node, end_index}
+use Rattle.case_model.specs.Mesh.{IsMesh, IsNumbered, places_before, reaches, ends_of, next_to, end_node, end_index}
 use Rattle.case_model.specs.Places.{is_bad, is_bad_state, bad_places}
 use Rattle.case_model.specs.Range.{IsPoint, IsState}
-use Rattle.case_model.specs.PlaceLaws.{length-places}
-use Rattle.case_model.specs.RowLaws.{length-states, row-good, near-good, state-next, point-inside, pipe-at, point-at, length-points, end-is, length-all_points, length-all_ends}
+use Rattle.case_model.proofs.PlaceLaws.{length-places}
+use Rattle.case_model.proofs.RowLaws.{length-states, row-good, near-good, state-next, point-inside, pipe-at, point-at, length-points, end-is, length-all_points, length-all_ends, point-first, point-last, points-from, points-good}
 use Rattle.case_model.specs.Rows.{row, near, node_ends, end_point, points, states, all_points, all_ends}
+use Rattle.case_model.specs.Runs.{run_of, point_at}
 use Rattle.row_steps.specs.declared.joints.PipeJoints.{PipeJoints}
 use Rattle.row_steps.proofs.Filling.{all-written}
 use Rattle.row_steps.specs.Stepping.{joints_of, all_joints, beside, HasPlaces, HasEnds, bad_marks}
@@ -77,15 +80,110 @@ ends-made law s k own xs ys o n e = e ∙ ap (λ y. law.ends k (s + 1) y xs) o �
 pub old-at : (law : Meaning) (s p i : ℕ) (old : List Point) (d : Point) → old ≡ points law s p → i ≤ reaches law.mesh p → get_or old i d ≡ ((row law s).point p i)
 old-at law s p i old d e h = ap (λ ys. get_or ys i d) e ∙ point-at law s p i d h
 
-pub old-in : (law : Meaning) (s p i : ℕ) (old : List Point) (d : Point) → IsMeaning law → old ≡ points law s p → i ≤ reaches law.mesh p → IsPoint (get_or old i d)
-old-in law s p i old d m e h = point-in law s p i (get_or old i d) m (old-at law s p i old d e h)
+pub all-in : (law : Meaning) (s p : ℕ) (old : List Point) → IsMeaning law → old ≡ points law s p → All IsPoint old
+all-in law s p old m e = subst (All IsPoint) (sym e) (points-good law m s p)
 
-pub inner-made : (law : Meaning) (s p i : ℕ) (old : List Point) (d x : Point) → old ≡ points law s p → 0 < i → i < reaches law.mesh p → x ≡ law.inner p i (get_or old (i - 1) d) (get_or old i d) (get_or old (i + 1) d) → x ≡ ((row law (s + 1)).point p i)
+inner-made : (law : Meaning) (s p i : ℕ) (old : List Point) (d x : Point) → old ≡ points law s p → 0 < i → i < reaches law.mesh p → x ≡ law.inner p i (get_or old (i - 1) d) (get_or old i d) (get_or old (i + 1) d) → x ≡ ((row law (s + 1)).point p i)
 inner-made law s p i old d x e h b f =
     f ∙ ap (λ l. law.inner p i l (get_or old i d) (get_or old (i + 1) d)) (old-at law s p (i - 1) old d e (omega arith))
     ∙ ap (λ o. law.inner p i ((row law s).point p (i - 1)) o (get_or old (i + 1) d)) (old-at law s p i old d e (omega arith))
     ∙ ap (law.inner p i ((row law s).point p (i - 1)) ((row law s).point p i)) (old-at law s p (i + 1) old d e (omega arith))
     ∙ sym (point-inside law s p i h b)
+
+-- the point of a run's number j is that of place j + 1
+run-at : (law : Meaning) (s p j count : ℕ) (old run : List Point) (d : Point) → old ≡ points law s p → run ≡ run_of law p 1 old count
+    → j < count → count + 1 ≡ reaches law.mesh p → get_or run j d ≡ ((row law (s + 1)).point p (1 + j))
+unfolding run_of
+run-at law s p j count old run d e r h n =
+    let f : ℕ → Point = λ k. law.inner p (1 + k) (point_at old k) (point_at old (k + 1)) (point_at old (k + 2)) in
+    inner-made law s p (1 + j) old Bad (get_or run j d) e (omega arith) (omega arith)
+    (ap (λ ys. get_or ys j d) r ∙ get_or-map-range_with_len f 0 count j j d h (omega arith)
+    ∙ ap (λ k. law.inner p (1 + j) (get_or old k Bad) (get_or old (j + 1) Bad) (get_or old (j + 2) Bad)) (omega arith)
+    ∙ ap (λ k. law.inner p (1 + j) (get_or old (1 + j - 1) Bad) (get_or old k Bad) (get_or old (j + 2) Bad)) (omega arith)
+    ∙ ap (λ k. law.inner p (1 + j) (get_or old (1 + j - 1) Bad) (get_or old (1 + j) Bad) (get_or old k Bad)) (omega arith))
+
+-- a place is the first, an inner one or the last
+which-place : (i n : ℕ) → i ≤ n → (i ≡ 0) ⊎ (((0 < i) × (i < n)) ⊎ (i ≡ n))
+which-place i n h = grind arith
+
+-- the run between the points of both ends
+joined-at : (law : Meaning) (s p i count : ℕ) (old run : List Point) (first last : Point)
+    → old ≡ points law s p → run ≡ run_of law p 1 old count → length run ≡ count → count + 1 ≡ reaches law.mesh p
+    → first ≡ end_point law (s + 1) (row law s) p false → last ≡ end_point law (s + 1) (row law s) p true
+    → (i ≡ 0) ⊎ (((0 < i) × (i < reaches law.mesh p)) ⊎ (i ≡ reaches law.mesh p))
+    → get_or ((first ∷ run) ++ last ∷ []) i Bad ≡ ((row law (s + 1)).point p i)
+joined-at law s p i count old run first last e r c n f l (inl z) =
+    ap (λ k. get_or ((first ∷ run) ++ last ∷ []) k Bad) z ∙ f ∙ sym (point-first law s p) ∙ ap (λ k. ((row law (s + 1)).point p k)) (sym z)
+joined-at law s p i count old run first last e r c n f l (inr (inl h)) =
+    let low = h.0 in
+    let high = h.1 in
+    let j : i ≡ suc (i - 1) = omega arith in
+    ap (λ k. get_or ((first ∷ run) ++ last ∷ []) k Bad) j
+    ∙ get_or_append_left run (last ∷ []) Bad (i - 1) (omega arith)
+    ∙ run-at law s p (i - 1) count old run Bad e r (omega arith) n
+    ∙ ap (λ k. ((row law (s + 1)).point p k)) (omega arith)
+joined-at law s p i count old run first last e r c n f l (inr (inr z)) =
+    let j : i ≡ suc (count) = omega arith in
+    ap (λ k. get_or ((first ∷ run) ++ last ∷ []) k Bad) j
+    ∙ get_or-append_right run (last ∷ []) count count Bad c (omega arith)
+    ∙ ap (λ k. get_or (last ∷ []) k Bad) (let k : count - count ≡ 0 = omega arith in k)
+    ∙ l ∙ sym (point-last law s p i (omega arith) z)
+
+-- the part of a list between its first item and its last, and the list with another part there
+part-size : {X : Type 0} (new : List X) (first : X) (n count : ℕ) → length new ≡ n + 1 → count + 1 ≡ n → length (take count (drop 1 (set new 0 first))) ≡ count
+part-size new first n count l e = length-take-le count (drop 1 (set new 0 first)) (omega (arith, length-drop 1 (set new 0 first), length-set new 0 first))
+
+as-long : {X : Type 0} (new run : List X) (first : X) (n count : ℕ) → length new ≡ n + 1 → length run ≡ count → count + 1 ≡ n → length (put_mid 1 count (set new 0 first) run) ≡ n + 1
+as-long new run first n count l c e =
+    same_len_mid 1 count (set new 0 first) run (c ∙ sym (part-size new first n count l e)) ∙ length-set new 0 first ∙ l
+
+-- a list whose first item, those up to the last and the last are written over
+written-over : {X : Type 0} (new run : List X) (first last : X) (n count : ℕ) → length new ≡ n + 1 → length run ≡ count → count + 1 ≡ n
+    → set (put_mid 1 count (set new 0 first) run) n last ≡ (first ∷ run) ++ last ∷ []
+written-over new run first last n count l c e =
+    let long : length (put_mid 1 count (set new 0 first) run) ≡ n + 1 = as-long new run first n count l c e in
+    let all : length (set (put_mid 1 count (set new 0 first) run) n last) ≡ n + 1 = length-set (put_mid 1 count (set new 0 first) run) n last ∙ long in
+    sym (take_all (n + 1) (set (put_mid 1 count (set new 0 first) run) n last) (omega arith))
+    ∙ take_more_set (put_mid 1 count (set new 0 first) run) n last (omega arith)
+    ∙ ap (λ ys. ys ++ last ∷ []) (take-put_mid 1 count (set new 0 first) run n (omega arith) (omega (arith, length-set new 0 first))
+    ∙ ap (λ ys. ys ++ run) (take_more_set new 0 first (omega arith)))
+
+-- a pipe of n reaches whose inner places, `count` of them, are written over as one run
+pub record IsStepped (law : Meaning) (s p n count : ℕ) (old new run : List Point) (first : Point) : Type 0 where
+  pub old_is : old ≡ points law s p
+  pub reaches_are : n ≡ reaches law.mesh p
+  pub inner_are : count + 1 ≡ n
+  pub size : length new ≡ n + 1
+  pub run_is : run ≡ run_of law p 1 old (length (take count (drop 1 (set new 0 first))))
+
+pub stepped : (law : Meaning) (s p : ℕ) (old new run : List Point) (first : Point) → old ≡ points law s p → 2 ≤ reaches law.mesh p → length new ≡ reaches law.mesh p + 1
+    → run ≡ run_of law p 1 old (length (take (length old - 1 - 1) (drop 1 (set new 0 first))))
+    → IsStepped law s p (length old - 1) (length old - 1 - 1) old new run first
+stepped law s p old new run first e long l r =
+    let count : length old ≡ reaches law.mesh p + 1 = ap length e ∙ length-points law s p in
+    record { old_is = e; reaches_are = omega arith; inner_are = omega arith; size = omega arith; run_is = r }
+
+run-size : (law : Meaning) (s p n count : ℕ) (old new run : List Point) (first : Point) → IsStepped law s p n count old new run first → length run ≡ count
+unfolding run_of
+run-size law s p n count old new run first h =
+    ap length h.run_is ∙ length-map-range_with_len _ 0 (length (take count (drop 1 (set new 0 first)))) ∙ part-size new first n count h.size h.inner_are
+
+pub last-within : (law : Meaning) (s p n count : ℕ) (old new run : List Point) (first : Point) → IsStepped law s p n count old new run first → n < length (put_mid 1 count (set new 0 first) run)
+last-within law s p n count old new run first h =
+    omega (arith, as-long new run first n count h.size (run-size law s p n count old new run first h) h.inner_are)
+
+-- the points of a pipe one step later: those of its ends, and the run of its inner places
+pub pipe-made : (law : Meaning) (s p n count : ℕ) (old new run : List Point) (first last : Point) → IsStepped law s p n count old new run first
+    → first ≡ end_point law (s + 1) (row law s) p false → last ≡ end_point law (s + 1) (row law s) p true
+    → set (put_mid 1 count (set new 0 first) run) n last ≡ points law (s + 1) p
+pipe-made law s p n count old new run first last h f l =
+    let few = run-size law s p n count old new run first h in
+    let m = h.reaches_are in
+    written-over new run first last n count h.size few h.inner_are
+    ∙ points-from law (s + 1) p ((first ∷ run) ++ last ∷ []) Bad
+    (omega (arith, length-append (first ∷ run) (last ∷ []), h.inner_are))
+    (λ i b. joined-at law s p i count old run first last h.old_is (h.run_is ∙ ap (run_of law p 1 old) (part-size new first n count h.size h.inner_are)) few (h.inner_are ∙ m) f l
+    (which-place i (reaches law.mesh p) (omega arith)))
 
 -- ---- both ends of each pipe
 
@@ -202,6 +300,16 @@ none-here law s own lines e h none p =
 pub start-here : (law : Meaning) (o : Option ℕ) (own : List NodeState) (lines : List (List Point)) → own ≡ states law 0 → lines ≡ all_points law 0 → position (λ bad. bad) (bad_marks own lines) ≡ o → first_fault law 0 ≡ option_map (λ k. (0, k)) o
 start-here law o own lines e h p =
     fault-at_start law o (ap (position (λ bad. bad)) (sym (marks-of_row law 0 own lines e h)) ∙ p)
+
+-- the law of the first fault: it is at a place of the mesh
+abbrev pub BelowLaw : Type 0
+BelowLaw = (law : Meaning) (last step place : ℕ) → IsNumbered law.mesh → first_fault law last ≡ Some (step, place) → place < law.mesh.places
+
+pub fault-there : (law : Meaning) (mesh : Mesh) (last : ℕ) (fault : Option (ℕ × ℕ)) → BelowLaw → mesh ≡ law.mesh → IsNumbered mesh → fault ≡ first_fault law last
+    → IfSome fault (λ at. at.1 < mesh.places)
+fault-there law mesh last None below m n e = tt
+fault-there law mesh last (Some fault) below m n e =
+    subst (λ x. fault.1 < x.places) (sym m) (below law last fault.0 fault.1 (subst IsNumbered m n) (sym e))
 
 -- ---- what a step leaves in lists that were lent to it whole
 

@@ -1,5 +1,6 @@
+//! The least Bad place of a row.
 ghost use Rattle.std.specs.Prelude.{◌≡◌, ℕ, ◌+◌, ◌^◌, ◌<◌, length, position};
-ghost use Rattle.std.specs.List.{position_or_len};
+ghost use Rattle.std.specs.List.{list_any, position_or_len};
 ghost use Rattle.case_model.specs.Places.{is_bad as bad_point, is_bad_state as bad_state};
 ghost use Rattle.row_steps.specs.Stepping.{bad_marks, has_bad};
 
@@ -35,8 +36,15 @@ pub(crate) fn least_if(bad: bool, own: &[NodeState], lines: &[List<Point>]) -> O
     if bad { least_bad(own, lines) } else { None }
 }
 
+/// Whether one of these points is Bad.
+pub(crate) fn has_bad_point(line: &[Point]) -> bool
+    ensures { result ≡ list_any bad_point line.now }
+{
+    line.iter().any(|point| is_bad(point))
+}
+
 /// Whether a point is Bad.
-pub(crate) fn is_bad(point: &Point) -> bool
+fn is_bad(point: &Point) -> bool
     ensures { result ≡ bad_point point.now }
 {
     match point {

@@ -1,3 +1,4 @@
+//! Where the ends of each pipe stand among those of the nodes.
 ghost use Rattle.std.specs.Prelude.{◌≡◌, ◌^◌, ◌<◌, length, IfOk};
 ghost use Rattle.std.specs.List.{list_any, position_or_len};
 ghost use Rattle.case_model.specs.Mesh.{is_end as end_is_of};

@@ -1,3 +1,4 @@
+//! What a law in range makes.
 ghost use Rattle.case_model.specs.Meaning.{Meaning, IsMeaning};
 
 use case_model::Law;

@@ -1,4 +1,6 @@
-ghost use Rattle.std.specs.Prelude.{◌≡◌, ℕ, ◌+◌, ◌^◌, ◌<◌, ◌≤◌, [], ◌∷◌, length, Option, Ok, None, IfOk};
+//! Rows from the initial one to the last step or the first fault.
+ghost use Rattle.std.specs.Prelude.{◌≡◌, ℕ, ◌+◌, ◌^◌, ◌<◌, ◌≤◌, [], ◌∷◌, length, Option, Ok, None, IfOk, IfSome};
+ghost use Rattle.case_model.specs.Accepted.{IsAcceptedMesh};
 ghost use Rattle.case_model.specs.FirstFault.{first_fault};
 ghost use Rattle.case_model.specs.Meaning.{Meaning, IsMeaning};
 ghost use Rattle.case_model.specs.Mesh.{IsMesh, IsNumbered, ends_of, places_before};
@@ -14,13 +16,14 @@ use crate::noting::note_row;
 use crate::ranges::keeps_range;
 use crate::start::{room_for_ends, room_for_points, start_points, start_states};
 use crate::step::step_row;
-use case_model::{Law, List, Mesh, NodeState, Point};
+use case_model::{Law, List, MOST_ENDS, Mesh, NodeState, Point, accepted_cases_are_kept};
 use envelope::{Fold, numbers_tell_places, stands_for_equal_maps};
 use std::alloc::{AllocError, Global};
 use std::mem;
 
-/// The first fault of a law's mesh up to the fold's last step, as step and place. Where there is none
-/// the fold was told every row. All memory is taken before the first step; the error is want of it.
+/// The first fault of a law's mesh up to the fold's last step, as step and place of the mesh. Where
+/// there is none the fold was told every row. All memory is taken before the first step; the error
+/// is want of it.
 pub fn compute<L: Law>(
     alloc: Global,
     law: &L,
@@ -28,20 +31,19 @@ pub fn compute<L: Law>(
     fold: &mut Fold,
 ) -> Result<Option<(u64, u64)>, AllocError>
     requires mesh { mesh.now ≡ (L.meaning law.now).mesh }
-    requires good { IsMesh mesh.now }
-    requires numbered { IsNumbered mesh.now }
-    requires ends { (k : ℕ) → k < length mesh.now.ends → length (ends_of mesh.now k) ≤ 8 }
-    requires few { length mesh.now.ends < 2 ^ 32 }
-    requires few_pipes { length mesh.now.pipes < 2 ^ 32 }
-    requires places { places_before mesh.now (length mesh.now.pipes) < 2 ^ 64 }
+    requires accepted { IsAcceptedMesh mesh.now }
     requires room { steps_of fold.old < 2 ^ 63 }
     requires spans { spans_of fold.old ≡ (0, mesh.now.places) ∷ [] }
     requires fresh { Stands fold.old nothing }
-    ensures fault { IfOk result (λ fault. fault ≡ first_fault (L.meaning law.now) (steps_of fold.old)) }
+    ensures fault { IfOk result (λ fault. fault
+        ≡ first_fault (L.meaning law.now) (steps_of fold.old)) }
+    ensures there { IfOk result (λ fault. IfSome fault (λ at. at.1 < mesh.now.places)) }
     ensures stands { result ≡ Ok None → Stands fold.new (rows_noted (L.meaning law.now)) }
     ensures same { IsSameFold fold.old fold.new }
 {
     keeps_range(law);
+    accepted_cases_are_kept();
+    numbers_tell_places();
     let joints = find_joints(alloc, mesh)?;
     let own = start_states(alloc, law, mesh)?;
     let old = start_points(alloc, law, mesh)?;
@@ -50,8 +52,8 @@ pub fn compute<L: Law>(
     Ok(run_steps(law, mesh, &joints, fold, own, old, given, new))
 }
 
-/// Steps from the initial row, in `own` and `old`, to the fold's last step, or to the first row with a
-/// Bad place. Takes no memory: `given` and `new` are room for what a step makes.
+/// Steps from the initial row, in `own` and `old`, to the fold's last step, or to the first row
+/// with a Bad place. Takes no memory: `given` and `new` are room for what a step makes.
 fn run_steps<L: Law>(
     law: &L,
     mesh: &Mesh,
@@ -66,10 +68,12 @@ fn run_steps<L: Law>(
     requires range { IsMeaning (L.meaning law.now) }
     requires good { IsMesh (L.meaning law.now).mesh }
     requires numbered { IsNumbered (L.meaning law.now).mesh }
-    requires ends { (k : ℕ) → k < length (L.meaning law.now).mesh.ends → length (ends_of (L.meaning law.now).mesh k) ≤ 8 }
+    requires ends { (k : ℕ) → k < length (L.meaning law.now).mesh.ends →
+        length (ends_of (L.meaning law.now).mesh k) ≤ MOST_ENDS }
     requires few { length (L.meaning law.now).mesh.ends < 2 ^ 32 }
     requires few_pipes { length (L.meaning law.now).mesh.pipes < 2 ^ 32 }
-    requires places { places_before (L.meaning law.now).mesh (length (L.meaning law.now).mesh.pipes) < 2 ^ 64 }
+    requires places { places_before (L.meaning law.now).mesh (length (L.meaning law.now).mesh.pipes)
+        < 2 ^ 64 }
     requires room { steps_of fold.old < 2 ^ 63 }
     requires spans { spans_of fold.old ≡ (0, (L.meaning law.now).mesh.places) ∷ [] }
     requires fresh { Stands fold.old nothing }
@@ -101,6 +105,3 @@ fn run_steps<L: Law>(
     }
     None
 }
-
-#[cfg(test)]
-mod tests;

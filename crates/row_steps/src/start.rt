@@ -1,3 +1,4 @@
+//! The initial row, and the room that the steps write into.
 ghost use Rattle.std.specs.Prelude.{◌≡◌, ◌+◌, ◌^◌, ◌<◌, length, replicate, IfOk};
 ghost use Rattle.case_model.specs.Mesh.{reaches as reaches_of};
 ghost use Rattle.case_model.specs.Meaning.{Meaning};

@@ -1,3 +1,4 @@
+//! One step of a row: the states of the nodes, and the points of the pipes.
 ghost use Rattle.std.specs.Prelude.{◌≡◌, ℕ, ◌+◌, ◌^◌, ◌<◌, ◌≤◌, true, false, length, map, slice_index_or, []};
 ghost use Rattle.std.specs.List.{AllByRecursion, list_any};
 ghost use Rattle.case_model.specs.Meaning.{Meaning, IsMeaning};
@@ -7,9 +8,16 @@ ghost use Rattle.case_model.specs.declared.points.Point.TheVariants.{Bad};
 ghost use Rattle.case_model.specs.Rows.{row, points, states, all_points, all_ends, node_ends, end_point};
 ghost use Rattle.row_steps.specs.Stepping.{HasPlaces, HasEnds, all_joints, beside as beside_in, has_bad};
 
-use crate::fault::{is_bad, is_bad_state};
+use crate::fault::{has_bad_point, is_bad_state};
 use crate::joints::{Joint, PipeJoints};
-use case_model::{End, Law, List, Mesh, NodeState, Point};
+use case_model::{End, Law, List, MOST_ENDS, Mesh, NodeState, Point};
+
+/// The points that the nodes give to both ends of a pipe.
+#[derive(Clone, Copy)]
+struct PipeEnds {
+    first: Point,
+    last: Point,
+}
 
 /// The next row: its states over those of `step` in `own`, its points in `new`. Tells whether a
 /// place of it is Bad. `given` receives the points that the nodes give their ends.
@@ -26,7 +34,8 @@ pub(crate) fn step_row<L: Law>(
     requires mesh { mesh.now ≡ (L.meaning law.now).mesh }
     requires range { IsMeaning (L.meaning law.now) }
     requires good { IsMesh (L.meaning law.now).mesh }
-    requires near { (k : ℕ) → k < length (L.meaning law.now).mesh.ends → length (ends_of (L.meaning law.now).mesh k) ≤ 8 }
+    requires near { (k : ℕ) → k < length (L.meaning law.now).mesh.ends →
+        length (ends_of (L.meaning law.now).mesh k) ≤ MOST_ENDS }
     requires few { length (L.meaning law.now).mesh.ends < 2 ^ 32 }
     requires few_pipes { length (L.meaning law.now).mesh.pipes < 2 ^ 32 }
     requires room { step + 1 < 2 ^ 64 }
@@ -38,7 +47,9 @@ pub(crate) fn step_row<L: Law>(
     ensures states { own.new ≡ states (L.meaning law.now) (step + 1) }
     ensures points { new.new ≡ all_points (L.meaning law.now) (step + 1) }
     ensures given { HasEnds (L.meaning law.now).mesh given.new }
-    ensures bad { result ≡ has_bad (states (L.meaning law.now) (step + 1)) (all_points (L.meaning law.now) (step + 1)) }
+    ensures bad { result
+        ≡ has_bad (states (L.meaning law.now) (step + 1))
+        (all_points (L.meaning law.now) (step + 1)) }
 {
     let bad = step_nodes(law, mesh, step, own, old, given);
     let bad_line = step_pipes(law, joints, step, old, given, new);
@@ -56,7 +67,8 @@ fn step_nodes<L: Law>(
     requires mesh { mesh.now ≡ (L.meaning law.now).mesh }
     requires range { IsMeaning (L.meaning law.now) }
     requires good { IsMesh (L.meaning law.now).mesh }
-    requires near { (k : ℕ) → k < length (L.meaning law.now).mesh.ends → length (ends_of (L.meaning law.now).mesh k) ≤ 8 }
+    requires near { (k : ℕ) → k < length (L.meaning law.now).mesh.ends →
+        length (ends_of (L.meaning law.now).mesh k) ≤ MOST_ENDS }
     requires few { length (L.meaning law.now).mesh.ends < 2 ^ 32 }
     requires room { step + 1 < 2 ^ 64 }
     requires own { own.old ≡ states (L.meaning law.now) step }
@@ -97,16 +109,17 @@ fn step_node<L: Law>(
     requires range { IsMeaning (L.meaning law.now) }
     requires good { IsMesh (L.meaning law.now).mesh }
     requires on_mesh { node < length (L.meaning law.now).mesh.ends }
-    requires near { length ends.now ≤ 8 }
+    requires near { length ends.now ≤ MOST_ENDS }
     requires room { step + 1 < 2 ^ 64 }
     requires own { own.now ≡ (row (L.meaning law.now) step).state node }
     requires old { old.now ≡ all_points (L.meaning law.now) step }
     requires ends { ends.now ≡ ends_of (L.meaning law.now).mesh node }
     requires given { length given.old ≡ length ends.now }
     ensures state { result ≡ (row (L.meaning law.now) (step + 1)).state node }
-    ensures given { given.new ≡ node_ends (L.meaning law.now) (step + 1) (row (L.meaning law.now) step) node }
+    ensures given { given.new
+        ≡ node_ends (L.meaning law.now) (step + 1) (row (L.meaning law.now) step) node }
 {
-    let mut room = [Point::Bad; 8];
+    let mut room = [Point::Bad; MOST_ENDS];
     let near = &mut room[..ends.len()];
     gather(old, ends, near);
     law.node(node, step + 1, own, near, given)
@@ -152,22 +165,16 @@ fn step_pipes<L: Law>(
     requires given { given.now ≡ all_ends (L.meaning law.now) step }
     requires new { HasPlaces (L.meaning law.now).mesh new.old }
     ensures points { new.new ≡ all_points (L.meaning law.now) (step + 1) }
-    ensures bad { result ≡ list_any (list_any bad_point) (all_points (L.meaning law.now) (step + 1)) }
+    ensures bad { result
+        ≡ list_any (list_any bad_point) (all_points (L.meaning law.now) (step + 1)) }
 {
     let mut bad = false;
     for (pipe, ends) in joints.iter().enumerate() {
         let first = given_at(given, &ends.first);
         let last = given_at(given, &ends.last);
         let line = new[pipe].as_mut_slice();
-        let bad_line = step_pipe(
-            law,
-            pipe as u32,
-            step,
-            old[pipe].as_slice(),
-            first,
-            last,
-            line,
-        );
+        let both = PipeEnds { first, last };
+        let bad_line = step_pipe(law, pipe as u32, step, old[pipe].as_slice(), &both, line);
         bad |= bad_line;
     }
     bad
@@ -176,7 +183,8 @@ fn step_pipes<L: Law>(
 /// The point that a node gives to one of its ends.
 fn given_at(given: &[List<Point>], joint: &Joint) -> Point
     requires { joint.now.node < length given.now }
-    ensures { result ≡ slice_index_or (slice_index_or given.now joint.now.node []) joint.now.index Bad }
+    ensures { result
+        ≡ slice_index_or (slice_index_or given.now joint.now.node []) joint.now.index Bad }
 {
     given[joint.node]
         .as_slice()
@@ -186,14 +194,13 @@ fn given_at(given: &[List<Point>], joint: &Joint) -> Point
 }
 
 /// The points of a pipe one step later, into `new`, of those in `old` and the points of its two
-/// ends. Tells whether one of them is Bad.
+/// ends; its inner places are one run. Tells whether one of them is Bad.
 fn step_pipe<L: Law>(
     law: &L,
     pipe: u32,
     step: u64,
     old: &[Point],
-    first: Point,
-    last: Point,
+    ends: &PipeEnds,
     new: &mut [Point],
 ) -> bool
     requires range { IsMeaning (L.meaning law.now) }
@@ -201,21 +208,17 @@ fn step_pipe<L: Law>(
     requires long { 2 ≤ reaches_of (L.meaning law.now).mesh pipe }
     requires small { reaches_of (L.meaning law.now).mesh pipe < 2 ^ 32 }
     requires old { old.now ≡ points (L.meaning law.now) step pipe }
-    requires first { first ≡ end_point (L.meaning law.now) (step + 1) (row (L.meaning law.now) step) pipe false }
-    requires last { last ≡ end_point (L.meaning law.now) (step + 1) (row (L.meaning law.now) step) pipe true }
+    requires first { ends.now.first
+        ≡ end_point (L.meaning law.now) (step + 1) (row (L.meaning law.now) step) pipe false }
+    requires last { ends.now.last
+        ≡ end_point (L.meaning law.now) (step + 1) (row (L.meaning law.now) step) pipe true }
     requires each { length new.old ≡ reaches_of (L.meaning law.now).mesh pipe + 1 }
     ensures points { new.new ≡ points (L.meaning law.now) (step + 1) pipe }
     ensures bad { result ≡ list_any bad_point (points (L.meaning law.now) (step + 1) pipe) }
 {
     let reaches = old.len() - 1;
-    let mut bad = is_bad(&first);
-    new[0] = first;
-    for place in 1..reaches as u32 {
-        let i = place as usize;
-        let point = law.inner(pipe, place, &old[i - 1], &old[i], &old[i + 1]);
-        bad |= is_bad(&point);
-        new[i] = point;
-    }
-    new[reaches] = last;
-    bad | is_bad(&last)
+    new[0] = ends.first;
+    law.inner_run(pipe, 1, old, &mut new[1..reaches]);
+    new[reaches] = ends.last;
+    has_bad_point(new)
 }

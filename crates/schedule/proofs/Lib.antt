@@ -2,5 +2,5 @@ pub mod Lists
 pub mod Turns
 pub mod Sound
 pub mod Found
-pub mod Counted
+pub mod LayoutNets
 pub mod Kept

@@ -4,9 +4,10 @@ use Rattle.std.specs.Prelude.{IfSome}
 use Rattle.std.proofs.lemmas.Bool.{lt-ltb, le-ltb, ne_eqb}
 use Rattle.std.proofs.Common.{eq-eqb}
 use Rattle.std.proofs.lemmas.Bool.Decides.{nat_tests}
+use Rattle.regions.specs.Needs.{needs_of}
 use Rattle.schedule.specs.declared.events.Event.{Event}
 use Rattle.schedule.specs.declared.events.Event.TheVariants.{Enter, Leave}
-use Rattle.schedule.specs.Nets.{Net, IsNet, HasRegion, regions_of, region_count, needs_of, needs, writes, needed_of, needed}
+use Rattle.schedule.specs.Nets.{Net, IsNet, HasRegion, regions_of, region_count, needs, writes, needed_of, needed}
 use Rattle.schedule.specs.States.{State, raise, after, MayEnter, MayLeave}
 use Rattle.schedule.specs.Order.{IsLeast, turn_of, kind_rank}
 use Rattle.schedule.specs.Rules.{IsSound}

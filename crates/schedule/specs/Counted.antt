@@ -27,7 +27,8 @@ state_over net entered left = record {
   passed = λ x j. needed net x (slice_index left x);
 }
 
-pub record IsSized (kinds : List Bool) (links : List (List Link)) (windows : ℕ) (entered left : List ℕ) : Type 0 where
+pub record IsSized (kinds : List Bool) (links : List (List Link)) (windows : ℕ)
+    (entered left : List ℕ) : Type 0 where
   pub few : length kinds < 2 ^ 32
   pub short : windows < 2 ^ 62
   pub links_fit : length links ≡ length kinds

@@ -1,9 +1,10 @@
 -- Strands and their sides, and the blocks that their regions need and write.
-use Rattle.std.specs.Prelude.{◌≡◌, ℕ, ◌+◌, ◌-◌, ◌<◌, ◌≤◌, min, nat_lt, if◌then◌else◌, Bool, true, false, Option, Some, None, zero, suc}
+use Rattle.std.specs.Prelude.{◌≡◌, ℕ, ◌+◌, ◌-◌, ◌<◌, ◌≤◌, min, nat_lt, if◌then◌else◌, Bool, true, false, Option, Some, None}
+use Rattle.regions.specs.Needs.{needs_of}
 
 -- strands by number, each a section or a station; the neighbour of a strand at an index of its
--- sides; and `back`, the index of the strand among that neighbour's sides. There are `windows` blocks
--- of each strand, and `slots` of them can stand at a time.
+-- sides; and `back`, the index of the strand among that neighbour's sides. There are `windows`
+-- blocks of each strand, and `slots` of them can stand at a time.
 pub record Net : Type 0 where
   pub strands : ℕ
   pub windows : ℕ
@@ -17,11 +18,16 @@ pub record Net : Type 0 where
 pub record IsNet (net : Net) : Type 0 where
   pub some : 1 ≤ net.slots
   pub strand : (x j : ℕ) → x < net.strands → j < net.sides x → net.side x j < net.strands
-  pub index : (x j : ℕ) → x < net.strands → j < net.sides x → net.back x j < net.sides (net.side x j)
-  pub again : (x j : ℕ) → x < net.strands → j < net.sides x → net.side (net.side x j) (net.back x j) ≡ x
-  pub twice : (x j : ℕ) → x < net.strands → j < net.sides x → net.back (net.side x j) (net.back x j) ≡ j
-  pub section : (x j : ℕ) → x < net.strands → j < net.sides x → net.is_section x ≡ true → net.is_section (net.side x j) ≡ false
-  pub station : (x j : ℕ) → x < net.strands → j < net.sides x → net.is_section x ≡ false → net.is_section (net.side x j) ≡ true
+  pub index : (x j : ℕ) → x < net.strands → j < net.sides x
+      → net.back x j < net.sides (net.side x j)
+  pub again : (x j : ℕ) → x < net.strands → j < net.sides x
+      → net.side (net.side x j) (net.back x j) ≡ x
+  pub twice : (x j : ℕ) → x < net.strands → j < net.sides x
+      → net.back (net.side x j) (net.back x j) ≡ j
+  pub section : (x j : ℕ) → x < net.strands → j < net.sides x → net.is_section x ≡ true
+      → net.is_section (net.side x j) ≡ false
+  pub station : (x j : ℕ) → x < net.strands → j < net.sides x → net.is_section x ≡ false
+      → net.is_section (net.side x j) ≡ true
 
 -- two nets are the same as far as strands and sides go
 pub record IsSameNet (a b : Net) : Type 0 where
@@ -47,11 +53,6 @@ pub record HasRegion (net : Net) (x m : ℕ) : Type 0 where
   pub number : m < region_count net x
 
 -- the block of each side that a region needs: of a section the one before its own number
-abbrev pub needs_of : Bool → ℕ → Option ℕ
-needs_of false m = Some m
-needs_of true zero = None
-needs_of true (suc m) = Some m
-
 abbrev pub needs : Net → ℕ → ℕ → Option ℕ
 needs net x m = needs_of (net.is_section x) m
 

@@ -17,7 +17,8 @@ turn_count net = 2 * net.windows + 1
 
 -- region m of strand x is region k of strand y or comes before it
 abbrev pub IsNoLater : Net → ℕ → ℕ → ℕ → ℕ → Type 0
-IsNoLater net x m y k = (turn_of net x m < turn_of net y k) ⊎ ((turn_of net x m ≡ turn_of net y k) × (x ≤ y))
+IsNoLater net x m y k = (turn_of net x m < turn_of net y k)
+    ⊎ ((turn_of net x m ≡ turn_of net y k) × (x ≤ y))
 
 -- region m of strand x is the least that isn't left
 pub record IsLeast (net : Net) (state : State) (x m : ℕ) : Type 0 where
@@ -43,7 +44,8 @@ pub record IsUnleft (net : Net) (state : State) (turn strand : ℕ) : Type 0 whe
   pub kind : kind_rank (net.is_section strand) ≡ turn % 2
   pub unleft : state.left strand ≤ turn / 2
 
--- all regions before the place are left, and the region at it isn't; past the last turn there is none
+-- all regions before the place are left, and the region at it isn't; past the last turn there is
+-- none
 pub record IsPlaced (net : Net) (state : State) (turn strand : ℕ) : Type 0 where
   pub before : AreLeftBefore net state turn strand
   pub most : turn ≤ turn_count net

@@ -15,14 +15,17 @@ pub record State : Type 0 where
 abbrev pub start : State
 start = record { entered = λ x. 0; left = λ x. 0; published = λ x. 0; passed = λ x j. 0 }
 
--- region m of strand x may be entered: all before it are left; each block that it needs is published
--- and not yet passed by x; and each neighbour has passed the block whose slot its own block takes
+-- region m of strand x may be entered: all before it are left; each block that it needs is
+-- published and not yet passed by x; and each neighbour has passed the block whose slot its own
+-- block takes
 pub record MayEnter (net : Net) (state : State) (x m : ℕ) : Type 0 where
   pub region : HasRegion net x m
   pub entered : state.entered x ≡ m
   pub left : state.left x ≡ m
-  pub blocks : IfSome (needs net x m) (λ b. (j : ℕ) → j < net.sides x → (b < state.published (net.side x j)) × (state.passed x j ≤ b))
-  pub room : IfSome (writes net m) (λ b. (j : ℕ) → j < net.sides x → b < state.passed (net.side x j) (net.back x j) + net.slots)
+  pub blocks : IfSome (needs net x m) (λ b. (j : ℕ) → j < net.sides x
+      → (b < state.published (net.side x j)) × (state.passed x j ≤ b))
+  pub room : IfSome (writes net m) (λ b. (j : ℕ) → j < net.sides x
+      → b < state.passed (net.side x j) (net.back x j) + net.slots)
 
 -- region m of strand x may be left: it is entered, and none after it
 pub record MayLeave (net : Net) (state : State) (x m : ℕ) : Type 0 where

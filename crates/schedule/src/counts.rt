@@ -1,3 +1,4 @@
+//! What a plan counts: of each strand the regions entered and left.
 ghost use Rattle.std.specs.Prelude.{◌≡◌, ◌<◌, ◌^◌};
 ghost use Rattle.schedule.specs.Nets.{IsNet, needed_of, regions_of};
 ghost use Rattle.schedule.specs.Rules.{IsSound};
@@ -21,7 +22,8 @@ pub(crate) struct Counts {
     left: Vec<u64>,
     ghost sized: { IsSized kinds.items links.items windows entered.items left.items },
     ghost net: { IsNet (net_over kinds.items links.items windows slots) },
-    ghost sound: { IsSound (net_over kinds.items links.items windows slots) (state_over (net_over kinds.items links.items windows slots) entered.items left.items) },
+    ghost sound: { IsSound (net_over kinds.items links.items windows slots)
+        (state_over (net_over kinds.items links.items windows slots) entered.items left.items) },
 }
 
 /// How many blocks of each side the first `count` regions of a strand need.
@@ -45,10 +47,10 @@ fn regions(section: bool, windows: u64) -> u64
 
 impl Counts {
     ghost use Rattle.std.specs.Prelude.{ℕ, ◌+◌, ◌*◌, ◌/◌, ◌≤◌, ◌↔◌, IsTrue, MatchOption, length, List as Items, Bool, IfOk};
-    ghost use Rattle.case_model.specs.Mesh.{IsMesh};
-    ghost use Rattle.regions.specs.Cuts.{IsLimited};
+    ghost use Rattle.regions.specs.LaidOut.{IsLaidOut};
+    ghost use Rattle.regions.specs.Regions.{IsWhole};
     ghost use Rattle.regions.specs.Sides.{AreMutual};
-    ghost use Rattle.schedule.specs.LayoutNets.{layout_net, IsCountable};
+    ghost use Rattle.schedule.specs.LayoutNets.{layout_net};
     ghost use Rattle.schedule.specs.Nets.{HasRegion, IsSameNet, needed as needed_blocks};
     ghost use Rattle.schedule.specs.States.{IsLawful, MayEnter, MayLeave, after, start};
     ghost use Rattle.schedule.specs.Order.{turn_of, turn_count, AreLeftOf, AreLeftBefore, IsUnleft, IsPlaced};
@@ -61,12 +63,12 @@ impl Counts {
         mesh: &Mesh,
         slots: u64,
     ) -> Result<Counts, AllocError>
+        requires laid_out { IsLaidOut layout.now mesh.now }
+        requires whole { IsWhole layout.now }
         requires mutual { AreMutual layout.now mesh.now }
-        requires countable { IsCountable layout.now }
-        requires mesh { IsMesh mesh.now }
-        requires limits { IsLimited mesh.now }
         requires some { 1 ≤ slots }
-        ensures net { IfOk result (λ counts. IsSameNet (layout_net layout.now mesh.now slots) (net_in counts)) }
+        ensures net { IfOk result (λ counts.
+            IsSameNet (layout_net layout.now mesh.now slots) (net_in counts)) }
         ensures state { IfOk result (λ counts. state_in counts ≡ start) }
     {
         let kinds = kinds_of(alloc, layout)?;
@@ -164,7 +166,9 @@ impl Counts {
     /// Whether all blocks that the region needs are published.
     fn are_published(&self, strand: u32, region: u64) -> bool
         requires { HasRegion (net_in self.now) strand region }
-        ensures { IsTrue result ↔ ((j : ℕ) → j < (net_in self.now).sides strand → needed_blocks (net_in self.now) strand (region + 1) ≤ (state_in self.now).published ((net_in self.now).side strand j)) }
+        ensures { IsTrue result ↔ ((j : ℕ) → j < (net_in self.now).sides strand →
+            needed_blocks (net_in self.now) strand (region + 1)
+            ≤ (state_in self.now).published ((net_in self.now).side strand j)) }
     {
         let wanted = needed(self.kinds[strand as usize], region + 1);
         for j in 0..self.sides(strand) {
@@ -178,7 +182,11 @@ impl Counts {
     /// Whether the block that the region writes, if it writes one, has a slot.
     fn has_room(&self, strand: u32, region: u64) -> bool
         requires { HasRegion (net_in self.now) strand region }
-        ensures { IsTrue result ↔ (region < (net_in self.now).windows → (j : ℕ) → j < (net_in self.now).sides strand → region < (state_in self.now).passed ((net_in self.now).side strand j) ((net_in self.now).back strand j) + (net_in self.now).slots) }
+        ensures { IsTrue result ↔ (region < (net_in self.now).windows →
+            (j : ℕ) → j < (net_in self.now).sides strand →
+            region < (state_in self.now).passed
+            ((net_in self.now).side strand j) ((net_in self.now).back strand j)
+            + (net_in self.now).slots) }
     {
         if region >= self.windows {
             return true;
@@ -224,7 +232,8 @@ impl Counts {
     fn passed_by(&self, strand: u32, index: usize) -> u64
         requires strand { strand < (net_in self.now).strands }
         requires index { index < (net_in self.now).sides strand }
-        ensures { result ≡ (state_in self.now).passed ((net_in self.now).side strand index) ((net_in self.now).back strand index) }
+        ensures { result ≡ (state_in self.now).passed
+            ((net_in self.now).side strand index) ((net_in self.now).back strand index) }
     {
         let neighbour = self.link(strand, index).strand as usize;
         needed(self.kinds[neighbour], self.left[neighbour])
@@ -232,7 +241,8 @@ impl Counts {
 
     fn enter(&mut self, strand: u32, region: u64)
         requires { MayEnter (net_in self.old) (state_in self.old) strand region }
-        ensures state { state_in self.new ≡ after (net_in self.old) (state_in self.old) (Event.Enter strand region) }
+        ensures state { state_in self.new
+            ≡ after (net_in self.old) (state_in self.old) (Event.Enter strand region) }
         ensures net { net_in self.new ≡ net_in self.old }
     {
         self.entered[strand as usize] += 1;
@@ -240,7 +250,8 @@ impl Counts {
 
     fn leave(&mut self, strand: u32, region: u64)
         requires { MayLeave (net_in self.old) (state_in self.old) strand region }
-        ensures state { state_in self.new ≡ after (net_in self.old) (state_in self.old) (Event.Leave strand region) }
+        ensures state { state_in self.new
+            ≡ after (net_in self.old) (state_in self.old) (Event.Leave strand region) }
         ensures net { net_in self.new ≡ net_in self.old }
     {
         self.left[strand as usize] += 1;

@@ -1,3 +1,4 @@
+//! What happens to regions.
 /// What happens to a region of a strand.
 #[derive(Clone, Copy, Debug, PartialEq, Eq)]
 pub enum Event {

@@ -2,11 +2,11 @@
 //! function here does anything: each contract is a law.
 ghost use Rattle.std.specs.Prelude.{◌≡◌, ℕ, ◌≤◌, List, ◌++◌};
 ghost use Rattle.case_model.specs.declared.meshes.Mesh.{Mesh as MeshSeen};
-ghost use Rattle.regions.specs.Cuts.{IsLimited};
-ghost use Rattle.regions.specs.Layouts.{layout_of};
-ghost use Rattle.schedule.specs.LayoutNets.{IsCountable};
+ghost use Rattle.regions.specs.declared.shapes.Layout.{Layout as LayoutSeen};
+ghost use Rattle.regions.specs.LaidOut.{IsLaidOut};
+ghost use Rattle.schedule.specs.LayoutNets.{layout_net};
 ghost use Rattle.schedule.specs.declared.events.Event.{Event};
-ghost use Rattle.schedule.specs.Nets.{Net};
+ghost use Rattle.schedule.specs.Nets.{Net, IsNet};
 ghost use Rattle.schedule.specs.States.{State, run, AreLawful};
 ghost use Rattle.schedule.specs.Rules.{KeepsOrder, KeepsSlots, KeepsCounts, IsAlwaysReady, IsNeverStuck, StaysLawful};
 
@@ -15,8 +15,8 @@ pub fn lists_keep_order()
     ensures { KeepsOrder }
 {}
 
-/// Of each strand and side, published less passed is 0 to the count of slots; a block's slot is free
-/// while it is written, and holds it until its reader leaves.
+/// Of each strand and side, published less passed is 0 to the count of slots; a block's slot is
+/// free while it is written, and holds it until its reader leaves.
 pub fn lists_keep_slots()
     ensures { KeepsSlots }
 {}
@@ -44,13 +44,19 @@ pub fn lawful_stays_lawful()
 
 /// A list is lawful exactly where its front is and, from the state that this leaves, the rest.
 pub fn lists_are_joined()
-    ensures state { (net : Net) (state : State) (front rest : List Event) → run net state (front ++ rest) ≡ run net (run net state front) rest }
-    ensures lawful { (net : Net) (state : State) (front rest : List Event) → AreLawful net state front → AreLawful net (run net state front) rest → AreLawful net state (front ++ rest) }
-    ensures front { (net : Net) (state : State) (front rest : List Event) → AreLawful net state (front ++ rest) → AreLawful net state front }
-    ensures rest { (net : Net) (state : State) (front rest : List Event) → AreLawful net state (front ++ rest) → AreLawful net (run net state front) rest }
+    ensures state { (net : Net) (state : State) (front rest : List Event) →
+        run net state (front ++ rest) ≡ run net (run net state front) rest }
+    ensures lawful { (net : Net) (state : State) (front rest : List Event) →
+        AreLawful net state front → AreLawful net (run net state front) rest →
+        AreLawful net state (front ++ rest) }
+    ensures front { (net : Net) (state : State) (front rest : List Event) →
+        AreLawful net state (front ++ rest) → AreLawful net state front }
+    ensures rest { (net : Net) (state : State) (front rest : List Event) →
+        AreLawful net state (front ++ rest) → AreLawful net (run net state front) rest }
 {}
 
-/// The strands and windows of a layout within its limits can be counted.
-pub fn layouts_are_countable()
-    ensures { (steps wish : ℕ) (mesh : MeshSeen) → IsLimited mesh → wish ≤ 64 → steps ≤ 100_000_000 → IsCountable (layout_of steps mesh wish) }
+/// Strands, sides and windows of a layout are a net, over any count of slots.
+pub fn layouts_make_nets()
+    ensures { (layout : LayoutSeen) (mesh : MeshSeen) (slots : ℕ) →
+        IsLaidOut layout mesh → 1 ≤ slots → IsNet (layout_net layout mesh slots) }
 {}

@@ -12,11 +12,8 @@ mod plan;
 
 pub use events::Event;
 pub use laws::{
-    lawful_stays_lawful, layouts_are_countable, least_is_ready, lists_are_joined,
-    lists_keep_counts, lists_keep_order, lists_keep_slots, never_stuck,
+    lawful_stays_lawful, layouts_make_nets, least_is_ready, lists_are_joined, lists_keep_counts,
+    lists_keep_order, lists_keep_slots, never_stuck,
 };
 pub use links::Link;
-pub use plan::Plan;
-
-#[cfg(test)]
-mod tests;
+pub use plan::{MOST_SLOTS, Plan};

@@ -1,3 +1,4 @@
+//! The neighbours of strands.
 /// A neighbour of a strand.
 #[derive(Clone, Copy, Debug, PartialEq, Eq)]
 pub struct Link {

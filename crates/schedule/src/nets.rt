@@ -1,8 +1,9 @@
-ghost use Rattle.std.specs.Prelude.{◌≡◌, ◌<◌, ◌≤◌, length, IfOk};
-ghost use Rattle.case_model.specs.Mesh.{IsMesh};
-ghost use Rattle.regions.specs.Cuts.{IsLimited};
+//! The kinds and the neighbours of the strands of a layout.
+ghost use Rattle.std.specs.Prelude.{◌≡◌, ◌<◌, length, IfOk};
+ghost use Rattle.regions.specs.LaidOut.{IsLaidOut};
+ghost use Rattle.regions.specs.Regions.{IsWhole};
 ghost use Rattle.regions.specs.Sides.{sides_of, is_section_shape};
-ghost use Rattle.schedule.specs.LayoutNets.{AreKinds, AreLinked, AreLinksOf, IsCountable};
+ghost use Rattle.schedule.specs.LayoutNets.{AreKinds, AreLinked, AreLinksOf};
 
 use crate::Link;
 use case_model::{List, Mesh};
@@ -32,10 +33,10 @@ pub(crate) fn links_of(
     layout: &Layout,
     mesh: &Mesh,
 ) -> Result<Vec<List<Link>>, AllocError>
-    requires countable { IsCountable layout.now }
-    requires mesh { IsMesh mesh.now }
-    requires limits { IsLimited mesh.now }
-    ensures { IfOk result (λ links. AreLinked layout.now mesh.now (length layout.now.shapes) links.items) }
+    requires laid_out { IsLaidOut layout.now mesh.now }
+    requires whole { IsWhole layout.now }
+    ensures { IfOk result (λ links.
+        AreLinked layout.now mesh.now (length layout.now.shapes) links.items) }
 {
     let mut links = Vec::new(alloc);
     for strand in 0..layout.shapes.as_slice().len() as u32 {
@@ -52,10 +53,10 @@ fn links_at(
     mesh: &Mesh,
     strand: u32,
 ) -> Result<Vec<Link>, AllocError>
+    requires laid_out { IsLaidOut layout.now mesh.now }
     requires inside { strand < length layout.now.shapes }
-    requires mesh { IsMesh mesh.now }
-    requires limits { IsLimited mesh.now }
-    ensures { IfOk result (λ links. AreLinksOf layout.now mesh.now strand (sides_of layout.now mesh.now strand) links.items) }
+    ensures { IfOk result (λ links.
+        AreLinksOf layout.now mesh.now strand (sides_of layout.now mesh.now strand) links.items) }
 {
     let mut links = Vec::new(alloc);
     for index in 0..layout.sides(mesh, strand) {

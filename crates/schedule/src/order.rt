@@ -1,3 +1,4 @@
+//! The order of regions.
 ghost use Rattle.std.specs.Prelude.{◌≡◌, ◌+◌, ◌*◌, ◌/◌, ◌<◌, ◌≤◌, ◌↔◌, IsTrue, MatchOption, IfSome};
 ghost use Rattle.schedule.specs.Countings.{net_in, state_in};
 ghost use Rattle.schedule.specs.Order.{turn_count, AreLeftOf, AreLeftBefore, IsUnleft, IsPlaced};
@@ -34,7 +35,9 @@ pub(crate) fn next_unleft(counts: &Counts, from: Place) -> Place
 /// The first strand, from this on, that has a region of the turn that isn't left.
 fn first_in_turn(counts: &Counts, turn: u64, from: u32) -> Option<u32>
     requires { turn < turn_count (net_in counts.now) }
-    ensures none { MatchOption result (AreLeftOf (net_in counts.now) (state_in counts.now) turn from (net_in counts.now).strands) (λ x. AreLeftOf (net_in counts.now) (state_in counts.now) turn from x) }
+    ensures none { MatchOption result
+        (AreLeftOf (net_in counts.now) (state_in counts.now) turn from (net_in counts.now).strands)
+        (λ x. AreLeftOf (net_in counts.now) (state_in counts.now) turn from x) }
     ensures some { IfSome result (λ x. IsUnleft (net_in counts.now) (state_in counts.now) turn x) }
 {
     for strand in from..counts.strands() {

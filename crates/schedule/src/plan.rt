@@ -1,3 +1,4 @@
+//! The schedule of all regions of a layout.
 ghost use Rattle.schedule.specs.Countings.{net_in, state_in};
 ghost use Rattle.schedule.specs.Order.{IsPlaced};
 
@@ -7,6 +8,9 @@ use crate::{Event, Link};
 use case_model::Mesh;
 use regions::Layout;
 use std::alloc::{AllocError, Global};
+
+/// The most slots for the blocks of a strand.
+pub const MOST_SLOTS: u64 = 8;
 
 /// The schedule of all regions of a layout, and how far it has come. Only `make` takes memory.
 #[derive(Drop, Debug)]
@@ -18,25 +22,21 @@ pub struct Plan {
 
 impl Plan {
     ghost use Rattle.std.specs.Prelude.{◌≡◌, ◌<◌, ◌≤◌, ◌⊎◌, ◌↔◌, IsTrue, IfSome, IfNone, IfOk, None};
-    ghost use Rattle.case_model.specs.Mesh.{IsMesh};
-    ghost use Rattle.regions.specs.Cuts.{IsLimited};
-    ghost use Rattle.regions.specs.Sides.{AreMutual};
-    ghost use Rattle.schedule.specs.LayoutNets.{layout_net, IsCountable};
+    ghost use Rattle.regions.specs.LaidOut.{IsLaidOut};
+    ghost use Rattle.schedule.specs.LayoutNets.{layout_net};
     ghost use Rattle.schedule.specs.Nets.{IsNet, IsSameNet};
     ghost use Rattle.schedule.specs.States.{IsLawful, MayEnter, MayLeave, after, start};
     ghost use Rattle.schedule.specs.Order.{IsLeast, AreAllLeft};
     ghost use Rattle.schedule.specs.Plans.{net_of, state_of};
 
-    /// The schedule of the layout of a mesh, of which nothing is entered, over so many slots for the
-    /// blocks of each strand. The error is want of memory.
+    /// The schedule of the layout of a mesh, of which nothing is entered, over so many slots for
+    /// the blocks of each strand. The error is want of memory.
     pub fn make(alloc: Global, layout: &Layout, mesh: &Mesh, slots: u64) -> Result<Plan, AllocError>
-        requires mutual { AreMutual layout.now mesh.now }
-        requires countable { IsCountable layout.now }
-        requires mesh { IsMesh mesh.now }
-        requires limits { IsLimited mesh.now }
+        requires laid_out { IsLaidOut layout.now mesh.now }
         requires some { 1 ≤ slots }
-        requires few { slots ≤ 8 }
-        ensures net { IfOk result (λ plan. IsSameNet (layout_net layout.now mesh.now slots) (net_of plan)) }
+        requires few { slots ≤ MOST_SLOTS }
+        ensures net { IfOk result (λ plan.
+            IsSameNet (layout_net layout.now mesh.now slots) (net_of plan)) }
         ensures mutual { IfOk result (λ plan. IsNet (net_of plan)) }
         ensures state { IfOk result (λ plan. state_of plan ≡ start) }
     {
@@ -53,7 +53,8 @@ impl Plan {
         self.counts.sides(strand)
     }
 
-    /// The neighbour of a strand at this index, and the index at which that neighbour has the strand.
+    /// The neighbour of a strand at this index, and the index at which that neighbour has the
+    /// strand.
     pub fn link(&self, strand: u32, index: usize) -> Link
         requires strand { strand < (net_of self.now).strands }
         requires index { index < (net_of self.now).sides strand }
@@ -85,7 +86,8 @@ impl Plan {
     /// where all regions are left.
     pub fn next_ready(&self) -> Option<(u32, u64)>
         ensures least { IfSome result (λ r. IsLeast (net_of self.now) (state_of self.now) r.0 r.1) }
-        ensures ready { IfSome result (λ r. MayEnter (net_of self.now) (state_of self.now) r.0 r.1 ⊎ MayLeave (net_of self.now) (state_of self.now) r.0 r.1) }
+        ensures ready { IfSome result (λ r. MayEnter (net_of self.now) (state_of self.now) r.0 r.1
+            ⊎ MayLeave (net_of self.now) (state_of self.now) r.0 r.1) }
         ensures done { IfNone result (AreAllLeft (net_of self.now) (state_of self.now)) }
         ensures all_left { AreAllLeft (net_of self.now) (state_of self.now) → result ≡ None }
     {

@@ -4,7 +4,6 @@ pub mod EndPoints
 pub mod Following
 pub mod Gathered
 pub mod NodeCaused
-pub mod Running
 pub mod Shares
 pub mod Starting
 pub mod Suiting

@@ -6,3 +6,5 @@
 mod hydraulics_rows;
 #[cfg(test)]
 mod number_rows;
+#[cfg(test)]
+mod report_rows;

@@ -1,4 +1,5 @@
 use Rattle.envelope.proofs.Numbered.{at-number, number-within, number-at}
+use Rattle.envelope.proofs.RowFolds.{fault-below}
 use Rattle.envelope.proofs.rows.numbers_tell_places.Goals as goal
 
 pub returns-clause-place : goal.returns-clause-place
@@ -12,3 +13,6 @@ returns-clause-on c = λ mesh k n h. (number-at mesh k n h).0
 
 pub returns-clause-number : goal.returns-clause-number
 returns-clause-number c = λ mesh k n h. (number-at mesh k n h).1
+
+pub returns-clause-fault : goal.returns-clause-fault
+returns-clause-fault c = fault-below

@@ -35,7 +35,7 @@ pub case_of-requires-clause-placed : goal.case_of-requires-clause-placed
 case_of-requires-clause-placed c = all_placed (lines_of c.args.bytes.now) c.in_ok-judge_lines.ensures.kept
 
 pub divide-requires : goal.divide-requires
-divide-requires c = subst IsRead (sym c.in-Ok.ensures) (is_read (lines_of c.args.bytes.now) c.in_ok-judge_lines.ensures.kept c.in_ok-judge_counts.ensures.kept)
+divide-requires c = subst IsRead (sym c.in_ok-case.ensures) (is_read (lines_of c.args.bytes.now) c.in_ok-judge_lines.ensures.kept c.in_ok-judge_counts.ensures.kept)
 
 pub returns-in_err-mesh-clause-refused : goal.returns-in_err-mesh-clause-refused
 returns-in_err-mesh-clause-refused c =
@@ -46,23 +46,23 @@ returns-in_err-mesh-clause-refused c =
       c.in_ok-judge_lines.ensures.kept,
       inr (
         c.in_ok-judge_counts.ensures.kept,
-        subst (λ (x : Case). IsFirst (passes x) line number) c.in-Ok.ensures (c.in_err-mesh.ensures.refused number line (ap Err e)),
+        subst (λ (x : Case). IsFirst (passes x) line number) c.in_ok-case.ensures (c.in_err-mesh.ensures.refused number line (ap Err e)),
       ),
     )))
 
 pub returns-clause-accepted : goal.returns-clause-accepted
 returns-clause-accepted c =
     let lines = lines_of c.args.bytes.now in
-    let e : AreEmpty (passes (case_of lines)) = subst (λ (x : Case). AreEmpty (passes x)) c.in-Ok.ensures c.in_ok-mesh.ensures.accepted in
-    let m : c.in_ok-mesh.mesh ≡ mesh_of (case_of lines) = c.in_ok-mesh.ensures.mesh ∙ ap mesh_of c.in-Ok.ensures in
-    let k : c.in-Ok.case ≡ case_of lines = c.in-Ok.ensures in
+    let e : AreEmpty (passes (case_of lines)) = subst (λ (x : Case). AreEmpty (passes x)) c.in_ok-case.ensures c.in_ok-mesh.ensures.accepted in
+    let m : c.in_ok-mesh.mesh ≡ mesh_of (case_of lines) = c.in_ok-mesh.ensures.mesh ∙ ap mesh_of c.in_ok-case.ensures in
+    let k : c.in_ok-case.case ≡ case_of lines = c.in_ok-case.ensures in
     let a = accepted c.args.bytes.now (omega arith) c.in_ok-judge_lines.ensures.kept c.in_ok-judge_counts.ensures.kept e in
     cc
 
 pub returns-clause-fulfilled : goal.returns-clause-fulfilled
 returns-clause-fulfilled c =
     let lines = lines_of c.args.bytes.now in
-    let e : AreEmpty (passes (case_of lines)) = subst (λ (x : Case). AreEmpty (passes x)) c.in-Ok.ensures c.in_ok-mesh.ensures.accepted in
-    let m : c.in_ok-mesh.mesh ≡ mesh_of (case_of lines) = c.in_ok-mesh.ensures.mesh ∙ ap mesh_of c.in-Ok.ensures in
-    subst (λ (x : Case). IsAccepted x c.in_ok-mesh.mesh) (sym c.in-Ok.ensures)
+    let e : AreEmpty (passes (case_of lines)) = subst (λ (x : Case). AreEmpty (passes x)) c.in_ok-case.ensures c.in_ok-mesh.ensures.accepted in
+    let m : c.in_ok-mesh.mesh ≡ mesh_of (case_of lines) = c.in_ok-mesh.ensures.mesh ∙ ap mesh_of c.in_ok-case.ensures in
+    subst (λ (x : Case). IsAccepted x c.in_ok-mesh.mesh) (sym c.in_ok-case.ensures)
     (fulfilled lines c.in_ok-mesh.mesh c.in_ok-judge_lines.ensures.kept c.in_ok-judge_counts.ensures.kept e m c.in_ok-mesh.ensures.good c.in_ok-mesh.ensures.numbered)

@@ -4,7 +4,8 @@ use Rattle.case_model.specs.Mesh.{IsMesh, IsNumbered}
 use Rattle.case_model.specs.Sets.{IsEmpty, IsLeast}
 use Rattle.case_model.specs.Division.{AreEnds}
 use Rattle.case_model.specs.Refusals.{is_too_large, part_rules, size_rules}
-use Rattle.reaches.proofs.Whole.{all_divided, too_large, not_too_large}
+use Rattle.case_model.proofs.Keeping.{all_divided}
+use Rattle.reaches.proofs.Whole.{too_large, not_too_large}
 use Rattle.reaches.proofs.Good.{pipes_number, mesh_good, mesh_numbered, mesh_whole}
 use Rattle.reaches.proofs.division.divide.Goals as goal
 

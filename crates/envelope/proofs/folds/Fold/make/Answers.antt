@@ -4,13 +4,14 @@ use Rattle.envelope.specs.Extremes.{HasExtreme, unmet}
 use Rattle.envelope.specs.Notings.{nothing, column}
 use Rattle.envelope.proofs.Read.{all-unmet}
 use Rattle.envelope.proofs.Standing.{nothing-met, blank-line}
+use Rattle.envelope.proofs.Told.{tells}
 use Rattle.envelope.proofs.folds.Fold.make.Goals as goal
 
 pub returns-clause-stands : goal.returns-clause-stands
-returns-clause-stands c = record {
+returns-clause-stands c = tells (record {
   places = λ k w. record {
     envelope = subst (λ x. HasExtreme (column nothing k) c.args.steps x) (sym (ap (λ xs. get_or xs (cell_of c.in_ok-from_slice.field-0.items c.in_ok-bases.bases.items k) unmet) c.in_ok-cells.ensures ∙ all-unmet c.index.result.now (cell_of c.in_ok-from_slice.field-0.items c.in_ok-bases.bases.items k))) (nothing-met (column nothing k) c.args.steps (λ s. refl));
     line_has = λ line q. blank-line (column nothing k) c.args.steps c.args.every (c.args.steps / c.args.every + 1) _ (λ s. refl) (c.in_ok-samples.ensures.blank line (c.in_ok-marks.ensures.own.own _ line q).0);
   };
   first_fault = λ s k l w. refl;
-}
+})

@@ -4,6 +4,7 @@ use Rattle.envelope.specs.Faults.{HasFault}
 use Rattle.envelope.specs.Folds.{spans_of, steps_of}
 use Rattle.envelope.proofs.Merged.{joined-start, joined-on, joined-gap, gap-at, last-gap, mergeable, mergeable-still, places-merged, fault-wider}
 use Rattle.envelope.proofs.Noted.{same-fault}
+use Rattle.envelope.proofs.Told.{held, tells}
 use Rattle.envelope.proofs.folds.Fold.merge.Goals as goal
 
 pub loop-index-init : goal.loop-index-init
@@ -33,13 +34,13 @@ returns-clause-stands c = λ map more p q g n.
     let r = c.args.other.now in
     let s = c.loop-index.self in
     let j = c.loop-index.invariant 400000 (last-gap (spans_of r) c.loop-index.index r.rising (omega arith)) in
-    record {
-      places = places-merged o r s map more 400000 j r.rising.low g n p q;
+    let k = mergeable-still o s r j.layout (mergeable o r c.requires.spans c.requires.probes c.requires.steps c.requires.every) in
+    tells (record {
+      places = places-merged o r s map more 400000 j r.rising.low g n (held p) (held q);
       first_fault =
-          let k = mergeable-still o s r j.layout (mergeable o r c.requires.spans c.requires.probes c.requires.steps c.requires.every) in
-          c.earlier-self.ensures (spans_of s) (steps_of s) map more g (same-fault o s map j.layout p.first_fault)
-          (fault-wider (spans_of r) (spans_of s) (steps_of s) more r.fault k.inside n (subst (λ l. HasFault (spans_of r) l more r.fault) k.steps_are q.first_fault));
-    }
+          c.earlier-self.ensures (spans_of s) (steps_of s) map more g (same-fault o s map j.layout (held p).first_fault)
+          (fault-wider (spans_of r) (spans_of s) (steps_of s) more r.fault k.inside n (subst (λ l. HasFault (spans_of r) l more r.fault) k.steps_are (held q).first_fault));
+    })
 
 pub returns-clause-same : goal.returns-clause-same
 returns-clause-same c =

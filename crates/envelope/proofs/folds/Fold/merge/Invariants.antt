@@ -1,5 +1,6 @@
 use Rattle.std.proofs.Common.{ℕ}
-use Rattle.envelope.specs.Folds.{AreJoined, spans_of}
+use Rattle.envelope.specs.Changes.{AreJoined}
+use Rattle.envelope.specs.Folds.{spans_of}
 use Rattle.envelope.proofs.Merged.{IsGap}
 use Rattle.envelope.proofs.folds.Fold.merge.Given as goal
 

@@ -1,7 +1,8 @@
 use Rattle.std.proofs.Common.{◌≡◌, ◌+◌, ◌≤◌, ◌<◌, ℕ, subst, arith}
 use Rattle.std.proofs.lemmas.List.{get_or_read}
 use Rattle.envelope.specs.Cells.{no_span}
-use Rattle.envelope.specs.Folds.{AreJoined, spans_of}
+use Rattle.envelope.specs.Changes.{AreJoined}
+use Rattle.envelope.specs.Folds.{spans_of}
 use Rattle.envelope.specs.CellLaws.{within-span}
 use Rattle.envelope.proofs.Merged.{joined-on}
 use Rattle.envelope.proofs.folds.Fold.merge_span.Goals as goal

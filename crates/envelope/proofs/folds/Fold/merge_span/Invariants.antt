@@ -1,4 +1,4 @@
-use Rattle.envelope.specs.Folds.{AreJoined}
+use Rattle.envelope.specs.Changes.{AreJoined}
 use Rattle.envelope.proofs.folds.Fold.merge_span.Given as goal
 
 abbrev pub invariant-loop-place : goal.invariant-loop-place

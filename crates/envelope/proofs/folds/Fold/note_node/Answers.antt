@@ -1,10 +1,13 @@
 use Rattle.std.proofs.Common.{◌∙◌, ap, Some, rules}
 use Rattle.envelope.specs.Notings.{taken, is_bad_noting}
 use Rattle.envelope.specs.Notings.Noting.{OfNode}
+use Rattle.envelope.proofs.Told.{held, tells}
 use Rattle.envelope.proofs.folds.Fold.note_node.Goals as goal
 
 pub returns-in-Good-clause-stands : goal.returns-in-Good-clause-stands
-returns-in-Good-clause-stands c = λ map p g. c.keep.ensures.stands map (OfNode c.args.state.now) (ap (λ x. taken (Some (OfNode x))) c.in-Good.is ∙ search rules) (ap (λ x. is_bad_noting (Some (OfNode x))) c.in-Good.is) p g
+returns-in-Good-clause-stands c = λ map p g.
+    tells (c.keep.ensures.stands map (OfNode c.args.state.now) (ap (λ x. taken (Some (OfNode x))) c.in-Good.is ∙ search rules) (ap (λ x. is_bad_noting (Some (OfNode x))) c.in-Good.is) (held p) g)
 
 pub returns-in-Bad-clause-stands : goal.returns-in-Bad-clause-stands
-returns-in-Bad-clause-stands c = λ map p g. c.fail.ensures.stands map (OfNode c.args.state.now) (ap (λ x. taken (Some (OfNode x))) c.in-Bad.is) (ap (λ x. is_bad_noting (Some (OfNode x))) c.in-Bad.is) p g
+returns-in-Bad-clause-stands c = λ map p g.
+    tells (c.fail.ensures.stands map (OfNode c.args.state.now) (ap (λ x. taken (Some (OfNode x))) c.in-Bad.is) (ap (λ x. is_bad_noting (Some (OfNode x))) c.in-Bad.is) (held p) g)

@@ -1,4 +1,5 @@
-use Rattle.envelope.specs.Folds.{Stands, AreSameCells}
+use Rattle.envelope.specs.Changes.{AreSameCells}
+use Rattle.envelope.specs.Layout.{IsHeld}
 use Rattle.envelope.specs.Notings.{Noted, line_noted, union, Agree}
 use Rattle.envelope.proofs.Lined.{part}
 use Rattle.envelope.proofs.folds.Fold.note_within.Given as goal
@@ -6,5 +7,5 @@ use Rattle.envelope.proofs.folds.Fold.note_within.Given as goal
 abbrev pub invariant-loop-i : goal.invariant-loop-i
 invariant-loop-i l = record {
   cells : AreSameCells l.fn.self l.self;
-  stands : (map : Noted) → Stands l.fn.self map → Agree map (line_noted l.step l.first l.points) → Stands l.self (union map (part l.step l.first l.i l.points));
+  stands : (map : Noted) → IsHeld l.fn.self map → Agree map (line_noted l.step l.first l.points) → IsHeld l.self (union map (part l.step l.first l.i l.points));
 }
