@@ -67,7 +67,7 @@ step_between low high from to t rest true true e f h i r = h
 step_between low high from to t rest true false e f h i r = on_line_between low high from to t h i (not_less_of t from.0 f) (less_of t to.0 e)
 step_between low high from to t rest false first e f h i r = r
 
-interp_between : (low high : ℤ) (points : List (ℤ × ℤ)) (t : ℤ) → 0 < length points → AllByRecursion (λ e. IsBetween low high e.1) points → IsBetween low high (interp points t)
+pub interp_between : (low high : ℤ) (points : List (ℤ × ℤ)) (t : ℤ) → 0 < length points → AllByRecursion (λ e. IsBetween low high e.1) points → IsBetween low high (interp points t)
 unfolding interp
 interp_between low high [] t some h = absurd (omega (arith, some))
 interp_between low high (last ∷ []) t some h = h.0
@@ -127,11 +127,11 @@ flow_in : (case : Case) → IsRead case → (p : ℕ) → (p < length case.pipes
 flow_in case read p (inl h) = let q = read.pipes p no_pipe h in q.flow
 flow_in case read p (inr h) = rw (get_or-eq_default case.pipes no_pipe h) (omega arith)
 
-along_size : (at_last : Bool) (q : ℤ) → unsigned_abs (cond at_last q (neg_ℤ q)) ≡ unsigned_abs q
+pub along_size : (at_last : Bool) (q : ℤ) → unsigned_abs (cond at_last q (neg_ℤ q)) ≡ unsigned_abs q
 along_size true q = refl
 along_size false q = omega (arith, ints)
 
-added : (x sum : ℤ) (n : ℕ) → unsigned_abs x ≤ 1_000_000_000_000 → unsigned_abs sum ≤ 1_000_000_000_000 * n → unsigned_abs (x +ℤ sum) ≤ 1_000_000_000_000 * suc n
+pub added : (x sum : ℤ) (n : ℕ) → unsigned_abs x ≤ 1_000_000_000_000 → unsigned_abs sum ≤ 1_000_000_000_000 * n → unsigned_abs (x +ℤ sum) ≤ 1_000_000_000_000 * suc n
 added x sum n h k = omega (arith, ints)
 
 inflow-in : (case : Case) (ends : List End) → IsRead case → unsigned_abs (start_inflow case ends) ≤ 1_000_000_000_000 * length ends
