@@ -1,2 +1,9 @@
 pub mod Keeping
 pub mod Sets
+pub mod RowLaws
+pub mod PlaceLaws
+pub mod FaultLaws
+pub mod WordLaws
+pub mod SearchLaws
+pub mod ListFacts
+pub mod Running

@@ -1,7 +1,7 @@
 pub mod Accepted
+pub mod Bounds
 pub mod Division
 pub mod Ends
-pub mod FaultLaws
 pub mod FirstFault
 pub mod Formulas
 pub mod Kept
@@ -12,18 +12,14 @@ pub mod Mesh
 pub mod NameFields
 pub mod Padding
 pub mod Parts
-pub mod PlaceLaws
 pub mod PlaceNumbers
 pub mod Places
 pub mod Range
 pub mod RangeLaws
 pub mod Refusals
-pub mod RowLaws
 pub mod Rows
 pub mod Runs
 pub mod Samples
 pub mod Search
-pub mod SearchLaws
 pub mod Sets
-pub mod WordLaws
 pub mod Words

@@ -3,7 +3,7 @@ ghost use Rattle.std.specs.Prelude.{◌≡◌, ℕ, List, Option, Some, None};
 ghost use Rattle.std.specs.List.{range_with_len};
 ghost use Rattle.case_model.specs.Sets.{Rules, AreEmpty, IsFirst};
 ghost use Rattle.case_model.specs.Search.{Refusal, first_of};
-ghost use Rattle.case_model.specs.SearchLaws.{IsRising, AreBounded};
+ghost use Rattle.case_model.specs.Bounds.{IsRising, AreBounded};
 
 /// The law of refusals: where passes of rules hold no pair beyond the lines and numbers that are
 /// searched, the search finds exactly the least pair of the first pass that has one, and none

@@ -53,6 +53,7 @@ asks_more z w v r n inside le h = record {
   asked = ap (λ (l : List ℕ). l ++ r ∷ []) h.asked ∙ append_assoc w.asked (range_with_len 0 r) (r ∷ []) ∙ ap (λ (l : List ℕ). w.asked ++ l) (sym (range_more r));
   each_known = length-set v.known r n ∙ h.each_known;
   rising = λ k l. let a = h.rising k l in let b = risen v.known r n inside le k in omega arith;
+  others = λ k l. get_or-set_other v.known r k n 0 (λ e. absurd (omega arith)) ∙ h.others k (omega arith);
 }
 
 -- the readers before r had passed enough, and r was asked

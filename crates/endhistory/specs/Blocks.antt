@@ -22,7 +22,8 @@ count_block base width b = map (λ i. base + b * width + i) (range_with_len 0 wi
 abbrev pub count_blocks : ℕ → ℕ → ℕ → Blocks
 count_blocks base width count = map (λ b. count_block base width b) (range_with_len 0 count)
 
--- Word 0 is the published count, word 1 + r the passed count of reader r. Then come the slots: block b lies in slot b mod K, and this is its word i
+-- Word 0 is the published count, word 1 + r the passed count of reader r. Then come the slots:
+-- block b lies in slot b mod K, and this is its word i
 abbrev pub data_word : Sizes → ℕ → ℕ → ℕ
 data_word z b i = 1 + z.readers + b % z.slots * z.width + i
 

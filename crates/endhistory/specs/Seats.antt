@@ -64,7 +64,8 @@ pub record IsAt (id : TableId) (z : Sizes) (s : Place) : Type 0 where
   pub words : id.words ≡ word_count z
   pub sizes : s.me.0.sizes ≡ z
 
--- a writer that `make` gave: its seat is of this table, it has this list of blocks, and all its counts are 0
+-- a writer that `make` gave: its seat is of this table, it has this list of blocks, and all its
+-- counts are 0
 pub record IsNewWriter (id : TableId) (z : Sizes) (blocks : Blocks) (s : Place) : Type 0 where
   pub at : IsAt id z s
   pub blocks_are : blocks_of s ≡ blocks
@@ -78,20 +79,23 @@ pub record IsNewReader (id : TableId) (z : Sizes) (blocks : Blocks) (s : Place) 
 
 -- the seat is as it was, but for the writer's view
 abbrev pub WritesWith : Place → Writing → Place → Type 0
-WritesWith s w t = (t.table_id ≡ s.table_id) × (t.id ≡ s.id) × (t.me ≡ (in_role s.me.0 (AsWriter w), []))
+WritesWith s w t = (t.table_id ≡ s.table_id) × (t.id ≡ s.id)
+    × (t.me ≡ (in_role s.me.0 (AsWriter w), []))
 
 -- the seat is as it was, but for the reader's view
 abbrev pub ReadsWith : Place → Reading → Place → Type 0
-ReadsWith s y t = (t.table_id ≡ s.table_id) × (t.id ≡ s.id) × (t.me ≡ (in_role s.me.0 (AsReader (number_of s) y), []))
+ReadsWith s y t = (t.table_id ≡ s.table_id) × (t.id ≡ s.id)
+    × (t.me ≡ (in_role s.me.0 (AsReader (number_of s) y), []))
 
 -- the writer's view after n words more, the reader's after n words more
 abbrev pub filled_to : Writing → ℕ → Writing
-filled_to w n = record { next = w.next; filled = n; loads = w.loads; asked = w.asked; known = w.known }
+filled_to w n = record w { filled = n }
 
 abbrev pub taken_to : Reading → ℕ → Reading
-taken_to y n = record { next = y.next; seen = y.seen; taken = n; loads = y.loads }
+taken_to y n = record y { taken = n }
 
--- the writer asked the first `count` readers in order, once each; only what it has loaded changed, and no count fell
+-- the writer asked the first `count` readers in order, once each; only what it has loaded changed:
+-- no count fell, and those of the other readers are as they were
 pub record HasAsked (z : Sizes) (w w' : Writing) (count : ℕ) : Type 0 where
   pub next : w'.next ≡ w.next
   pub filled : w'.filled ≡ w.filled
@@ -99,8 +103,10 @@ pub record HasAsked (z : Sizes) (w w' : Writing) (count : ℕ) : Type 0 where
   pub asked : w'.asked ≡ w.asked ++ range_with_len 0 count
   pub each_known : length w'.known ≡ length w.known
   pub rising : (r : ℕ) → r < z.readers → slice_index w.known r ≤ slice_index w'.known r
+  pub others : (r : ℕ) → count ≤ r → slice_index w'.known r ≡ slice_index w.known r
 
--- the first `count` readers were asked, and each has passed the block that lies in the slot of the next one
+-- the first `count` readers were asked, and each has passed the block that lies in the slot of the
+-- next one
 pub record AllFree (z : Sizes) (w w' : Writing) (count : ℕ) : Type 0 where
   pub asks : HasAsked z w w' count
   pub free : (k : ℕ) → k < count → w'.next < slice_index w'.known k + z.slots

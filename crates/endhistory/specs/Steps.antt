@@ -1,5 +1,7 @@
--- The six kinds of step. Each is one load or one store of one word by one seat. It changes the view of that seat alone, and no step changes the list of blocks.
--- K is the count of slots. Where it says known[r] > next - K, the sum stands on the other side: next < known[r] + K.
+-- The six kinds of step. Each is one load or one store of one word by one seat. It changes the view
+-- of that seat alone, and no step changes the list of blocks.
+-- K is the count of slots. Where it says known[r] > next - K, the sum stands on the other side:
+-- next < known[r] + K.
 use Rattle.std.specs.Prelude.{◌≡◌, ℕ, ◌+◌, ◌<◌, ◌++◌, ◌∷◌, [], length, slice_index, slice_set}
 use Rattle.endhistory.specs.declared.views.Sizes.{Sizes}
 use Rattle.endhistory.specs.declared.views.Writing.{Writing}
@@ -18,10 +20,12 @@ pub record CheckNeeds (z : Sizes) (word r : ℕ) : Type 0 where
   pub place : word ≡ 1 + r
 
 abbrev pub checked_view : Writing → ℕ → ℕ → Writing
-checked_view w r n = record { next = w.next; filled = w.filled; loads = w.loads + 1; asked = w.asked ++ r ∷ []; known = slice_set w.known r n }
+checked_view w r n =
+    record w { loads = w.loads + 1; asked = w.asked ++ r ∷ []; known = slice_set w.known r n }
 
 -- Fill. The writer stores the next word of its next block.
--- Needs: known[r] > next - K for every r; filled < width; next is below the count of blocks; the word is that of the block.
+-- Needs: known[r] > next - K for every r; filled < width; next is below the count of blocks; the
+-- word is that of the block.
 -- View after: filled is one more.
 pub record FillNeeds (z : Sizes) (blocks : Blocks) (w : Writing) (word x : ℕ) : Type 0 where
   pub free : IsFree z w
@@ -31,7 +35,7 @@ pub record FillNeeds (z : Sizes) (blocks : Blocks) (w : Writing) (word x : ℕ) 
   pub word_is : x ≡ slice_index (block blocks w.next) w.filled
 
 abbrev pub filled_view : Writing → Writing
-filled_view w = record { next = w.next; filled = w.filled + 1; loads = w.loads; asked = w.asked; known = w.known }
+filled_view w = record w { filled = w.filled + 1 }
 
 -- Publish. The writer stores next + 1 as the published count.
 -- Needs: filled = width.
@@ -42,7 +46,7 @@ pub record PublishNeeds (z : Sizes) (w : Writing) (word x : ℕ) : Type 0 where
   pub word_is : x ≡ w.next + 1
 
 abbrev pub published_view : Writing → Writing
-published_view w = record { next = w.next + 1; filled = 0; loads = w.loads; asked = w.asked; known = w.known }
+published_view w = record w { next = w.next + 1; filled = 0 }
 
 -- Look. A reader loads the published count.
 -- Needs: nothing.

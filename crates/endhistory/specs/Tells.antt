@@ -1,4 +1,5 @@
--- What each step on the table tells: the seat's view after it, and what the loaded word is known to be. And how `make` splits the seats.
+-- What each step on the table tells: the seat's view after it, and what the loaded word is known to
+-- be. And how `make` splits the seats.
 use Rattle.std.specs.Prelude.{◌≡◌, ℕ, ◌+◌, ◌≤◌, [], length, slice_index}
 use Rattle.atomic_table.specs.Table.{Me, Step}
 use Rattle.endhistory.specs.declared.views.Sizes.{Sizes}
@@ -26,7 +27,8 @@ abbrev pub Reads : Here → ℕ → Reading → Here → Type 0
 Reads m r y m' = m' ≡ (in_role m.0 (AsReader r y), m.1)
 
 abbrev pub checked : Step (Unit {0}) → Here → ℕ → Here → Type 0
-checked st m n m' = (w : Writing) (r : ℕ) → m.0.role ≡ AsWriter w → st.word ≡ 1 + r → Writes m (checked_view w r n) m' × (slice_index w.known r ≤ n)
+checked st m n m' = (w : Writing) (r : ℕ) → m.0.role ≡ AsWriter w → st.word ≡ 1 + r
+    → Writes m (checked_view w r n) m' × (slice_index w.known r ≤ n)
 
 abbrev pub filled : Step (Unit {0}) → Here → ℕ → Here → Type 0
 filled st m n m' = (w : Writing) → m.0.role ≡ AsWriter w → Writes m (filled_view w) m'
@@ -35,10 +37,12 @@ abbrev pub published : Step (Unit {0}) → Here → ℕ → Here → Type 0
 published st m n m' = (w : Writing) → m.0.role ≡ AsWriter w → Writes m (published_view w) m'
 
 abbrev pub looked : Step (Unit {0}) → Here → ℕ → Here → Type 0
-looked st m n m' = (r : ℕ) (y : Reading) → m.0.role ≡ AsReader r y → Reads m r (looked_view y n) m' × (y.seen ≤ n) × (n ≤ length m.0.blocks)
+looked st m n m' = (r : ℕ) (y : Reading) → m.0.role ≡ AsReader r y
+    → Reads m r (looked_view y n) m' × (y.seen ≤ n) × (n ≤ length m.0.blocks)
 
 abbrev pub taken : Step (Unit {0}) → Here → ℕ → Here → Type 0
-taken st m n m' = (r : ℕ) (y : Reading) → m.0.role ≡ AsReader r y → Reads m r (taken_view y) m' × (n ≡ slice_index (block m.0.blocks y.next) y.taken)
+taken st m n m' = (r : ℕ) (y : Reading) → m.0.role ≡ AsReader r y
+    → Reads m r (taken_view y) m' × (n ≡ slice_index (block m.0.blocks y.next) y.taken)
 
 abbrev pub passed : Step (Unit {0}) → Here → ℕ → Here → Type 0
 passed st m n m' = (r : ℕ) (y : Reading) → m.0.role ≡ AsReader r y → Reads m r (passed_view y) m'
@@ -52,7 +56,8 @@ abbrev pub opened : Blocks → View → View
 opened blocks v = record { sizes = v.sizes; blocks = blocks; role = Nobody 0 }
 
 abbrev pub writer_view : Blocks → View → View
-writer_view blocks v = record { sizes = v.sizes; blocks = blocks; role = AsWriter (start_writing v.sizes) }
+writer_view blocks v =
+    record { sizes = v.sizes; blocks = blocks; role = AsWriter (start_writing v.sizes) }
 
 -- how many readers have their seats
 abbrev pub dealt_of : Role → ℕ

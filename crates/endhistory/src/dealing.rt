@@ -18,8 +18,10 @@ use std::marker::Brand;
 pub(crate) fn add_writer<T: BlockTag, B: Given>(top: &Top, seat: &mut Place, tag: &T) -> Place
     requires at { IsAt top.now.table_id top.now.key seat.old × (seat.old.me.0.role ≡ Unopened) }
     requires picked { B.given ≡ T.blocks tag.now }
-    ensures seat { (seat.new.table_id ≡ seat.old.table_id) × (seat.new.me.0 ≡ opened (T.blocks tag.now) seat.old.me.0) }
-    ensures writer { (result.table_id ≡ seat.old.table_id) × (result.me ≡ (writer_view (T.blocks tag.now) seat.old.me.0, [])) }
+    ensures seat { (seat.new.table_id ≡ seat.old.table_id)
+        × (seat.new.me.0 ≡ opened (T.blocks tag.now) seat.old.me.0) }
+    ensures writer { (result.table_id ≡ seat.old.table_id)
+        × (result.me ≡ (writer_view (T.blocks tag.now) seat.old.me.0, [])) }
 {
     let _ = tag;
     top.split_seat::<DealWriter<B>>(seat)
@@ -27,10 +29,13 @@ pub(crate) fn add_writer<T: BlockTag, B: Given>(top: &Top, seat: &mut Place, tag
 
 // The seat of the next reader.
 pub(crate) fn add_reader(top: &Top, seat: &mut Place, number: usize) -> Place
-    requires at { IsAt top.now.table_id top.now.key seat.old × (seat.old.me.0.role ≡ Nobody number) }
+    requires at { IsAt top.now.table_id top.now.key seat.old
+        × (seat.old.me.0.role ≡ Nobody number) }
     requires inside { number < top.now.key.readers }
-    ensures seat { (seat.new.table_id ≡ seat.old.table_id) × (seat.new.me.0 ≡ dealing seat.old.me.0) }
-    ensures reader { (result.table_id ≡ seat.old.table_id) × (result.me ≡ (reader_view seat.old.me.0, [])) }
+    ensures seat { (seat.new.table_id ≡ seat.old.table_id)
+        × (seat.new.me.0 ≡ dealing seat.old.me.0) }
+    ensures reader { (result.table_id ≡ seat.old.table_id)
+        × (result.me ≡ (reader_view seat.old.me.0, [])) }
 {
     let _ = number;
     top.split_seat::<DealReader>(seat)
@@ -45,10 +50,13 @@ pub(crate) fn deal_readers(
 ) -> Result<Vec<Reader>, AllocError>
     requires at { IsAt top.now.table_id sizes seat.old × IsSizes sizes × (sizes ≡ top.now.key) }
     requires dealer { seat.old.me.0.role ≡ Nobody 0 }
-    requires blocks { (length (blocks_of seat.old) ≤ 2 ^ 62) × AreWide sizes.width (blocks_of seat.old) }
+    requires blocks { (length (blocks_of seat.old) ≤ 2 ^ 62)
+        × AreWide sizes.width (blocks_of seat.old) }
     ensures count { IfOk result (λ v. length v.items ≡ sizes.readers) }
-    ensures all { IfOk result (λ v. All (λ r. IsNewReader top.now.table_id sizes (blocks_of seat.old) r.seat) v.items) }
-    ensures numbers { IfOk result (λ v. map (λ r. number_of r.seat) v.items ≡ range_with_len 0 sizes.readers) }
+    ensures all { IfOk result (λ v.
+        All (λ r. IsNewReader top.now.table_id sizes (blocks_of seat.old) r.seat) v.items) }
+    ensures numbers { IfOk result (λ v. map (λ r. number_of r.seat) v.items
+        ≡ range_with_len 0 sizes.readers) }
 {
     let mut readers = Vec::with_capacity(alloc, sizes.readers)?;
     for number in 0..sizes.readers {
@@ -65,12 +73,16 @@ pub(crate) fn open<T: BlockTag>(
     sizes: Sizes,
 ) -> Result<(History, Writer, Vec<Reader>), AllocError>
     requires sizes { IsSizes sizes }
-    requires blocks { (length (T.blocks tag.now) ≤ 2 ^ 62) × AreWide sizes.width (T.blocks tag.now) }
+    requires blocks { (length (T.blocks tag.now) ≤ 2 ^ 62)
+        × AreWide sizes.width (T.blocks tag.now) }
     ensures history { IfOk result (λ t. t.0.sizes ≡ sizes) }
-    ensures writer { IfOk result (λ t. IsNewWriter t.0.table.shared.table_id t.0.sizes (T.blocks tag.now) t.1.seat) }
+    ensures writer { IfOk result (λ t.
+        IsNewWriter t.0.table.shared.table_id t.0.sizes (T.blocks tag.now) t.1.seat) }
     ensures count { IfOk result (λ t. length t.2.items ≡ sizes.readers) }
-    ensures all { IfOk result (λ t. All (λ r. IsNewReader t.0.table.shared.table_id t.0.sizes (T.blocks tag.now) r.seat) t.2.items) }
-    ensures numbers { IfOk result (λ t. map (λ r. number_of r.seat) t.2.items ≡ range_with_len 0 sizes.readers) }
+    ensures all { IfOk result (λ t. All (λ r.
+        IsNewReader t.0.table.shared.table_id t.0.sizes (T.blocks tag.now) r.seat) t.2.items) }
+    ensures numbers { IfOk result (λ t. map (λ r. number_of r.seat) t.2.items
+        ≡ range_with_len 0 sizes.readers) }
 {
     let words = vec![in alloc; 0; 1 + sizes.readers + sizes.slots * sizes.width]?;
     let (table, mut dealer) = Table::of_words(alloc, words.as_slice(), &sizes)?;

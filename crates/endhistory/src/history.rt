@@ -70,10 +70,13 @@ impl History {
         requires sizes { IsSizes (sizes_of blocks width readers) }
         requires blocks { (length (T.blocks tag.now) ≤ 2 ^ 62) × AreWide width (T.blocks tag.now) }
         ensures history { IfOk result (λ t. t.0.sizes ≡ sizes_of blocks width readers) }
-        ensures writer { IfOk result (λ t. IsNewWriter t.0.table.shared.table_id t.0.sizes (T.blocks tag.now) t.1.seat) }
+        ensures writer { IfOk result (λ t.
+            IsNewWriter t.0.table.shared.table_id t.0.sizes (T.blocks tag.now) t.1.seat) }
         ensures count { IfOk result (λ t. length t.2.items ≡ readers) }
-        ensures all { IfOk result (λ t. All (λ r. IsNewReader t.0.table.shared.table_id t.0.sizes (T.blocks tag.now) r.seat) t.2.items) }
-        ensures numbers { IfOk result (λ t. map (λ r. number_of r.seat) t.2.items ≡ range_with_len 0 readers) }
+        ensures all { IfOk result (λ t. All (λ r.
+            IsNewReader t.0.table.shared.table_id t.0.sizes (T.blocks tag.now) r.seat) t.2.items) }
+        ensures numbers { IfOk result (λ t. map (λ r. number_of r.seat) t.2.items
+            ≡ range_with_len 0 readers) }
     {
         let sizes = Sizes {
             slots: blocks as usize,
@@ -92,13 +95,15 @@ impl History {
     }
 
     /// Asks the readers, in order, whether the writer may publish its next
-    /// block: `Held` names the first that has not passed the block in its slot.
+    /// block: `Held` names the first that has not passed the block in its slot,
+    /// and what is known of the readers after it stays as it was.
     pub fn vacancy(&self, writer: &mut Writer) -> Vacancy
         requires at { IsAt self.now.table.shared.table_id self.now.sizes writer.old.seat }
         ensures at { IsAt self.now.table.shared.table_id self.now.sizes writer.new.seat }
         ensures blocks { blocks_of writer.new.seat ≡ blocks_of writer.old.seat }
         ensures next { (writing writer.new.seat).next ≡ (writing writer.old.seat).next }
-        ensures answer { Finds self.now.sizes result (writing writer.old.seat) (writing writer.new.seat) }
+        ensures answer { Finds self.now.sizes result
+            (writing writer.old.seat) (writing writer.new.seat) }
     {
         check_all(
             &self.table.shared,
@@ -112,7 +117,8 @@ impl History {
     pub fn publish(&self, writer: &mut Writer, words: &[u64])
         requires at { IsAt self.now.table.shared.table_id self.now.sizes writer.old.seat }
         requires free { IsFree self.now.sizes (writing writer.old.seat) }
-        requires words { ((writing writer.old.seat).next < length (blocks_of writer.old.seat)) × (words.now ≡ block (blocks_of writer.old.seat) (writing writer.old.seat).next) }
+        requires words { ((writing writer.old.seat).next < length (blocks_of writer.old.seat))
+            × (words.now ≡ block (blocks_of writer.old.seat) (writing writer.old.seat).next) }
         ensures at { IsAt self.now.table.shared.table_id self.now.sizes writer.new.seat }
         ensures blocks { blocks_of writer.new.seat ≡ blocks_of writer.old.seat }
         ensures view { writing writer.new.seat ≡ published_view (writing writer.old.seat) }
@@ -130,10 +136,12 @@ impl History {
         ensures at { IsAt self.now.table.shared.table_id self.now.sizes reader.new.seat }
         ensures blocks { blocks_of reader.new.seat ≡ blocks_of reader.old.seat }
         ensures number { number_of reader.new.seat ≡ number_of reader.old.seat }
-        ensures view { reading reader.new.seat ≡ looked_view (reading reader.old.seat) (reading reader.new.seat).seen }
+        ensures view { reading reader.new.seat
+            ≡ looked_view (reading reader.old.seat) (reading reader.new.seat).seen }
         ensures rising { (reading reader.old.seat).seen ≤ (reading reader.new.seat).seen }
         ensures answer { Says result (reading reader.new.seat) }
-        ensures published { (reading reader.old.seat).next < (reading reader.old.seat).seen → IsReady result }
+        ensures published { (reading reader.old.seat).next < (reading reader.old.seat).seen
+            → IsReady result }
     {
         let published = self.table.shared.load::<steps::Look>(&mut reader.seat, 0);
         if reader.next < published {
@@ -146,13 +154,16 @@ impl History {
     /// Loads the words of the reader's next block into a slice of `width` words.
     pub fn fetch(&self, reader: &mut Reader, into: &mut [u64])
         requires at { IsAt self.now.table.shared.table_id self.now.sizes reader.old.seat }
-        requires ready { ((reading reader.old.seat).next < (reading reader.old.seat).seen) × ((reading reader.old.seat).taken ≡ 0) }
+        requires ready { ((reading reader.old.seat).next < (reading reader.old.seat).seen)
+            × ((reading reader.old.seat).taken ≡ 0) }
         requires wide { length into.old ≡ self.now.sizes.width }
         ensures at { IsAt self.now.table.shared.table_id self.now.sizes reader.new.seat }
         ensures blocks { blocks_of reader.new.seat ≡ blocks_of reader.old.seat }
         ensures number { number_of reader.new.seat ≡ number_of reader.old.seat }
-        ensures view { reading reader.new.seat ≡ taken_to (reading reader.old.seat) self.now.sizes.width }
-        ensures words { into.new ≡ block (blocks_of reader.old.seat) (reading reader.old.seat).next }
+        ensures view { reading reader.new.seat
+            ≡ taken_to (reading reader.old.seat) self.now.sizes.width }
+        ensures words { into.new
+            ≡ block (blocks_of reader.old.seat) (reading reader.old.seat).next }
     {
         take_all(
             &self.table.shared,
@@ -183,7 +194,8 @@ impl History {
 impl Writer {
     pub(crate) fn new(seat: Place) -> Writer
         requires writer { IsWriter seat × (writing seat ≡ start_writing seat.me.0.sizes) }
-        requires blocks { (length (blocks_of seat) ≤ 2 ^ 62) × AreWide seat.me.0.sizes.width (blocks_of seat) }
+        requires blocks { (length (blocks_of seat) ≤ 2 ^ 62)
+            × AreWide seat.me.0.sizes.width (blocks_of seat) }
         ensures { result.seat ≡ seat }
     {
         Writer { seat, next: 0 }
@@ -194,7 +206,8 @@ impl Reader {
     pub(crate) fn new(seat: Place, number: usize) -> Reader
         requires reader { IsReader seat × (reading seat ≡ start_reading) }
         requires number { (number ≡ number_of seat) × (number < seat.me.0.sizes.readers) }
-        requires blocks { (length (blocks_of seat) ≤ 2 ^ 62) × AreWide seat.me.0.sizes.width (blocks_of seat) }
+        requires blocks { (length (blocks_of seat) ≤ 2 ^ 62)
+            × AreWide seat.me.0.sizes.width (blocks_of seat) }
         ensures { result.seat ≡ seat }
     {
         Reader {

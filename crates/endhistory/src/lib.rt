@@ -22,6 +22,3 @@ pub use laws::{
 };
 pub use steps::Rule;
 pub use views::{Reading, Role, Sizes, View, Writing};
-
-#[cfg(test)]
-mod tests;

@@ -30,7 +30,8 @@ pub(crate) fn holds_slot(sizes: Sizes, next: u64, passed: u64) -> bool
 // Asks the readers in order whether the slot of the next block is free.
 pub(crate) fn check_all(top: &Top, seat: &mut Place, sizes: Sizes, next: u64) -> Vacancy
     requires at { IsAt top.now.table_id sizes seat.old × IsSizes sizes × (sizes ≡ top.now.key) }
-    requires writer { IsWriter seat.old × (next ≡ (writing seat.old).next) × (length (writing seat.old).known ≡ sizes.readers) }
+    requires writer { IsWriter seat.old × (next ≡ (writing seat.old).next)
+        × (length (writing seat.old).known ≡ sizes.readers) }
     ensures seat { WritesWith seat.old (writing seat.new) seat.new }
     ensures asked { (count : ℕ) × HasAsked sizes (writing seat.old) (writing seat.new) count }
     ensures answer { Finds sizes result (writing seat.old) (writing seat.new) }
@@ -50,9 +51,11 @@ pub(crate) fn check_all(top: &Top, seat: &mut Place, sizes: Sizes, next: u64) ->
 // Stores the words of the next block into its slot.
 pub(crate) fn fill_all(top: &Top, seat: &mut Place, sizes: Sizes, next: u64, words: &[u64])
     requires at { IsAt top.now.table_id sizes seat.old × IsSizes sizes × (sizes ≡ top.now.key) }
-    requires writer { IsWriter seat.old × (next ≡ (writing seat.old).next) × ((writing seat.old).filled ≡ 0) }
+    requires writer { IsWriter seat.old × (next ≡ (writing seat.old).next)
+        × ((writing seat.old).filled ≡ 0) }
     requires free { IsFree sizes (writing seat.old) }
-    requires words { (next < length (blocks_of seat.old)) × (words.now ≡ block (blocks_of seat.old) next) × (length words.now ≡ sizes.width) }
+    requires words { (next < length (blocks_of seat.old))
+        × (words.now ≡ block (blocks_of seat.old) next) × (length words.now ≡ sizes.width) }
     ensures { WritesWith seat.old (filled_to (writing seat.old) sizes.width) seat.new }
 {
     let start = slot_start(sizes, next);
@@ -64,8 +67,10 @@ pub(crate) fn fill_all(top: &Top, seat: &mut Place, sizes: Sizes, next: u64, wor
 // Loads the words of the next block from its slot.
 pub(crate) fn take_all(top: &Top, seat: &mut Place, sizes: Sizes, next: u64, into: &mut [u64])
     requires at { IsAt top.now.table_id sizes seat.old × IsSizes sizes × (sizes ≡ top.now.key) }
-    requires reader { IsReader seat.old × (next ≡ (reading seat.old).next) × ((reading seat.old).taken ≡ 0) × ((reading seat.old).next < (reading seat.old).seen) }
-    requires wide { (length into.old ≡ sizes.width) × (length (block (blocks_of seat.old) next) ≡ sizes.width) }
+    requires reader { IsReader seat.old × (next ≡ (reading seat.old).next)
+        × ((reading seat.old).taken ≡ 0) × ((reading seat.old).next < (reading seat.old).seen) }
+    requires wide { (length into.old ≡ sizes.width)
+        × (length (block (blocks_of seat.old) next) ≡ sizes.width) }
     ensures seat { ReadsWith seat.old (taken_to (reading seat.old) sizes.width) seat.new }
     ensures words { into.new ≡ block (blocks_of seat.old) next }
 {

@@ -11,7 +11,7 @@ use Rattle.case_model.specs.declared.cases.Pipe.{Pipe}
 use Rattle.case_model.specs.declared.cases.Probe.{Probe}
 use Rattle.case_model.specs.declared.meshes.End.{End}
 use Rattle.case_model.specs.Sets.{Rules, on_line, either, any_below}
-use Rattle.case_model.specs.SearchLaws.{IsOneOf, IsRising, IsBounded, AreBounded}
+use Rattle.case_model.specs.Bounds.{IsOneOf, IsRising, IsBounded, AreBounded}
 use Rattle.case_model.specs.Parts.{pipe_at, node_at, probe_at, no_pipe, no_node, no_probe}
 use Rattle.case_model.specs.Division.{is_count, is_adjusted, has_coefficients, node_ends}
 use Rattle.case_model.specs.Formulas.{reach_count}

@@ -1,5 +1,5 @@
 -- The verdict on a text: its refusal is that of the first pass that has one, and there is none where no pass has one.
-use Rattle.std.proofs.Common.{Bool, cond, inl, inr, ℕ, ◌+◌, ◌<◌, ◌≤◌, ◌≡◌, nat_lt, true, false, Option, Some, None, Result, Ok, Err, IfSome, IfErr, List, length, sym, subst, refl}
+use Rattle.std.proofs.Common.{Bool, cond, inl, inr, ◌∙◌, ℕ, ◌+◌, ◌<◌, ◌≤◌, ◌≡◌, nat_lt, true, false, Option, Some, None, Result, Ok, Err, IfSome, IfErr, List, length, sym, subst, refl}
 use Rattle.std.specs.Result.{IsErrAnd}
 use Rattle.std.proofs.lemmas.Bool.{lt-ltb, le-ltb, ltb-true, ltb-false}
 use Rattle.case_model.specs.declared.cases.Case.{Case}
@@ -9,7 +9,8 @@ use Rattle.case_model.specs.Mesh.{IsMesh, IsNumbered}
 use Rattle.case_model.specs.Refusals.{passes}
 use Rattle.case_model.specs.Sets.{IsEmpty, AreEmpty, IsFirst}
 use Rattle.case_model.specs.Search.{Refusal}
-use Rattle.case_model.specs.SearchLaws.{FirstOrNone, first_is, first_found, first_none}
+use Rattle.case_model.specs.Bounds.{FirstOrNone}
+use Rattle.case_model.proofs.SearchLaws.{first_is, first_found, first_none}
 use Rattle.case_model.specs.declared.fault.CaseFault.{CaseFault}
 use Rattle.case_model.specs.declared.fault.CaseFault.TheVariants.{Refused, Memory}
 use Rattle.case_rules.specs.Said.{lines_of}
@@ -52,7 +53,7 @@ pub accepted : (bytes : List ℕ) → length bytes ≤ 8_388_608 → IsEmpty (li
     → verdict bytes ≡ Ok (case_of (lines_of bytes), mesh_of (case_of (lines_of bytes)))
 accepted bytes h kept counts divided = short_verdict bytes None h (refusal_empty (lines_of bytes) (kept, (counts, divided)))
 
-some_pipe : (lines : List (List (List ℕ))) → IsEmpty (count_rules lines) → 0 < length (case_of lines).pipes
+pub some_pipe : (lines : List (List (List ℕ))) → IsEmpty (count_rules lines) → 0 < length (case_of lines).pipes
 unfolding case_of
 some_pipe lines counts = some_pipe_in lines counts
 
@@ -77,7 +78,7 @@ judged_so : (bytes : List ℕ) (long : Bool) (o : Option Refusal) → nat_lt 8_3
     → IsVerdict bytes (cond long (Err too_long) (judged (case_of (lines_of bytes)) o))
 judged_so bytes true o e f = inl (ltb-true 8_388_608 (length bytes) e, refl)
 judged_so bytes false (Some r) e f = inr (ltb-false 8_388_608 (length bytes) e, f)
-judged_so bytes false None e f = (ltb-false 8_388_608 (length bytes) e, (f, (refl, refl)))
+judged_so bytes false None e f = (ltb-false 8_388_608 (length bytes) e, f, refl, refl)
 
 pub verdict_so : (bytes : List ℕ) → IsVerdict bytes (verdict bytes)
 unfolding verdict
@@ -85,12 +86,13 @@ verdict_so bytes =
     judged_so bytes (nat_lt 8_388_608 (length bytes)) (refusal_of (lines_of bytes)) refl
     (refusal_first (lines_of bytes))
 
+meant : (v : Case × Mesh) (case : Case) → v.0 ≡ case → v.1 ≡ mesh_of v.0 → judged case None ≡ Ok v
+meant v case e f = rw (← e, ← f) refl
+
 pub verdict_only : (bytes : List ℕ) (v : Result (Case × Mesh) Refusal) → IsVerdict bytes v → verdict bytes ≡ v
 verdict_only bytes (Err r) (inl h) = let l = long_refused bytes h.0 in let e = h.1 in cc
 verdict_only bytes (Err r) (inr h) =
     short_verdict bytes (Some r) h.0 (refusal_only (lines_of bytes) r.line r.number h.1)
 verdict_only bytes (Ok v) h =
-    let l = short_verdict bytes None h.0 (refusal_empty (lines_of bytes) h.1.0) in
-    let case = h.1.1.0 in
-    let mesh = h.1.1.1 in
-    cc
+    short_verdict bytes None h.0 (refusal_empty (lines_of bytes) h.1)
+    ∙ meant v (case_of (lines_of bytes)) h.2 h.3

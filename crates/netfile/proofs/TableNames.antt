@@ -1,6 +1,6 @@
 -- A reference names a table of the kind that is wanted.
 use Rattle.std.proofs.Common.{◌≡◌, ◌<◌, ◌≤◌, ℕ, suc, ◌+◌, ◌*◌, ◌%◌, ◌==◌, ◌&&◌, nat_lt, nat_le, Bool, true, false, cond, List, [], ◌∷◌, length, take, Option, Some, None, refl, sym, ap, ◌∙◌, subst, eq-eqb, arith}
-use Rattle.std.proofs.lemmas.Bool.{and_parts, or_left}
+use Rattle.std.proofs.lemmas.Bool.{and_parts, or_left, and_from}
 use Rattle.std.proofs.lemmas.List.{get_or-take, length-take-le}
 use Rattle.std.proofs.lemmas.List.Folds.{list_any_at}
 use Rattle.std.proofs.lemmas.List.Elements.{All-from_recursion}
@@ -31,7 +31,7 @@ use Rattle.netfile.proofs.NamesOnce.{name_once}
 eqb_same : (a b : ℕ) → (a == b) ≡ true → a ≡ b
 eqb_same a b h = grind (arith, nat_tests)
 
-false_true : (b : Bool) → b ≡ false → b ≡ true → ⊥
+pub false_true : (b : Bool) → b ≡ false → b ≡ true → ⊥
 false_true true h k = absurd (grind arith)
 false_true false h k = grind arith
 
@@ -120,13 +120,9 @@ unfolding has_count
 two_fields kind n h = let m = (and_parts (n % 2 == 0) (nat_le (2 * least_entries kind + 2) n) h).1 in grind (arith, nat_tests)
 
 -- no two lines define one name
-before_no : (lines : List (List (List ℕ))) (name : List ℕ) (j k : ℕ) → j < k → k < length lines → list_any (defines name) (take k lines) ≡ false → defines name (line_at lines j) ≡ true → ⊥
+pub before_no : (lines : List (List (List ℕ))) (name : List ℕ) (j k : ℕ) → j < k → k < length lines → list_any (defines name) (take k lines) ≡ false → defines name (line_at lines j) ≡ true → ⊥
 before_no lines name j k l h e d =
     false_true (list_any (defines name) (take k lines)) e (list_any_at (defines name) (take k lines) j [] (omega (arith, length-take-le k lines (omega arith))) (rw (get_or-take k lines j [] l) d))
-
-and_both : (a b : Bool) → a ≡ true → b ≡ true → (a && b) ≡ true
-and_both true b h k = k
-and_both false b h k = h
 
 some_numbered : (number : ℕ) (o : Option Part) → has_number number o ≡ true → is_some_part o ≡ true
 some_numbered number None h = h
@@ -137,33 +133,33 @@ pub defines_of : (number : ℕ) (name : List ℕ) (fields : List (List ℕ)) →
 unfolding defines is_definition defines_numbered
 defines_of number name fields h =
     let n = (and_parts (has_number number (named_by (said fields)) && nat_lt 1 (length fields)) (bytes_eq (field fields 1) name) h).0 in
-    and_both (is_some_part (named_by (said fields)) && nat_lt 1 (length fields)) (bytes_eq (field fields 1) name)
-    (and_both (is_some_part (named_by (said fields))) (nat_lt 1 (length fields)) (some_numbered number (named_by (said fields)) (and_parts (has_number number (named_by (said fields))) (nat_lt 1 (length fields)) n).0) (and_parts (has_number number (named_by (said fields))) (nat_lt 1 (length fields)) n).1)
+    and_from (is_some_part (named_by (said fields)) && nat_lt 1 (length fields)) (bytes_eq (field fields 1) name)
+    (and_from (is_some_part (named_by (said fields))) (nat_lt 1 (length fields)) (some_numbered number (named_by (said fields)) (and_parts (has_number number (named_by (said fields))) (nat_lt 1 (length fields)) n).0) (and_parts (has_number number (named_by (said fields))) (nat_lt 1 (length fields)) n).1)
     (and_parts (has_number number (named_by (said fields)) && nat_lt 1 (length fields)) (bytes_eq (field fields 1) name) h).1
 
-some_directive : (o : Option Directive) → is_some_part (named_by o) ≡ true → (d : Directive) × (o ≡ Some d)
+pub some_directive : (o : Option Directive) → is_some_part (named_by o) ≡ true → (d : Directive) × (o ≡ Some d)
 some_directive None h = absurd (grind arith)
 some_directive (Some d) h = (d, refl)
 
-definition_of : (name : List ℕ) (fields : List (List ℕ)) → defines name fields ≡ true → is_definition fields ≡ true
+pub definition_of : (name : List ℕ) (fields : List (List ℕ)) → defines name fields ≡ true → is_definition fields ≡ true
 unfolding defines
 definition_of name fields h = (and_parts (is_definition fields) (bytes_eq (field fields 1) name) h).0
 
-name_of : (name : List ℕ) (fields : List (List ℕ)) → defines name fields ≡ true → field fields 1 ≡ name
+pub name_of : (name : List ℕ) (fields : List (List ℕ)) → defines name fields ≡ true → field fields 1 ≡ name
 unfolding defines
 name_of name fields h = (bytes_eq-Decides (field fields 1) name).0 (and_parts (is_definition fields) (bytes_eq (field fields 1) name) h).1
 
-directive_of_definition : (fields : List (List ℕ)) → is_definition fields ≡ true → (d : Directive) × (said fields ≡ Some d)
+pub directive_of_definition : (fields : List (List ℕ)) → is_definition fields ≡ true → (d : Directive) × (said fields ≡ Some d)
 unfolding is_definition
 directive_of_definition fields h = some_directive (said fields) (and_parts (is_some_part (named_by (said fields))) (nat_lt 1 (length fields)) h).0
 
-name_free : (lines : List (List (List ℕ))) → IsEmpty (line_rules lines) → (name : List ℕ) (k : ℕ) → k < length lines → defines name (line_at lines k) ≡ true → list_any (defines name) (take k lines) ≡ false
+pub name_free : (lines : List (List (List ℕ))) → IsEmpty (line_rules lines) → (name : List ℕ) (k : ℕ) → k < length lines → defines name (line_at lines k) ≡ true → list_any (defines name) (take k lines) ≡ false
 name_free lines empty name k h d =
     let i = definition_of name (line_at lines k) d in
     let s = directive_of_definition (line_at lines k) i in
     subst (λ (n : List ℕ). list_any (defines n) (take k lines) ≡ false) (name_of name (line_at lines k) d) (name_once lines empty k s.0 h s.1 i)
 
-only_one : (j k : ℕ) → (j < k → ⊥) → (k < j → ⊥) → j ≡ k
+pub only_one : (j k : ℕ) → (j < k → ⊥) → (k < j → ⊥) → j ≡ k
 only_one j k f g = grind (arith, f, g)
 
 same_place : (lines : List (List (List ℕ))) → IsEmpty (line_rules lines) → (name : List ℕ) (j k : ℕ) → j < length lines → k < length lines → defines name (line_at lines j) ≡ true → defines name (line_at lines k) ≡ true → j ≡ k
@@ -182,8 +178,8 @@ by_table P (Some OfWatch) at fields f = tt
 defines_own : (name : List ℕ) (own : TableKind) (fields : List (List ℕ)) → nat_lt 1 (length fields) ≡ true → bytes_eq (field fields 1) name ≡ true → defines_by (part_number (ATable own)) name fields (Some (OfTable own)) ≡ true
 unfolding defines_by
 defines_own name own fields n b =
-    and_both ((part_number (ATable own) == part_number (ATable own)) && nat_lt 1 (length fields)) (bytes_eq (field fields 1) name)
-    (and_both (part_number (ATable own) == part_number (ATable own)) (nat_lt 1 (length fields)) (eq-eqb (part_number (ATable own)) (part_number (ATable own)) refl) n) b
+    and_from ((part_number (ATable own) == part_number (ATable own)) && nat_lt 1 (length fields)) (bytes_eq (field fields 1) name)
+    (and_from (part_number (ATable own) == part_number (ATable own)) (nat_lt 1 (length fields)) (eq-eqb (part_number (ATable own)) (part_number (ATable own)) refl) n) b
 
 table_defines : (name : List ℕ) (own : TableKind) (fields : List (List ℕ)) → said fields ≡ Some (OfTable own) → nat_lt 1 (length fields) ≡ true → bytes_eq (field fields 1) name ≡ true → defines_numbered (part_number (ATable own)) name fields ≡ true
 table_defines name own fields s n b =

@@ -1,14 +1,11 @@
 -- Numbers times a speed ratio: their sizes, signs and order.
-use Rattle.std.proofs.Common.{ℕ, ◌+◌, ◌*◌, ◌≤◌, ℤ, pos, negsuc, ◌+ℤ◌, ◌*ℤ◌, ◌≤ℤ◌, unsigned_abs, w64, FitsSigned, arith}
+use Rattle.std.proofs.Common.{ℕ, ◌+◌, ◌*◌, ◌≤◌, ℤ, pos, negsuc, ◌+ℤ◌, ◌*ℤ◌, ◌≤ℤ◌, unsigned_abs, FitsSigned, arith}
 use Rattle.std.specs.Int.{w128}
-use Rattle.std.proofs.lemmas.Int.{ints, unsigned_abs-mul, fits_signed_from_abs, fits_signed_mul}
+use Rattle.std.proofs.lemmas.Int.{ints, unsigned_abs-mul, fits_signed_mul}
 use Rattle.std.proofs.lemmas.Nat.{mul-le}
 use Rattle.fixed_num.specs.Rounding.{rnd, half_up}
 use Rattle.case_model.specs.Limits.{IsWithin}
 use Rattle.pumps.specs.Pumps.{scaled, point_at}
-
-pub fits : (z : ℤ) → unsigned_abs z ≤ 1000000000000000000 → FitsSigned w64 z
-fits z h = fits_signed_from_abs w64 z (omega arith)
 
 pub scaled_fits : (speed x : ℤ) → IsWithin (pos 0) (pos 2000000) speed → IsWithin (pos 0) (pos 1000000000000) x → FitsSigned w128 (speed *ℤ x)
 scaled_fits speed x h k = fits_signed_mul w128 speed x 2000000 1000000000000 (omega (arith, ints)) (omega (arith, ints)) (omega arith)

@@ -1,3 +1,4 @@
+//! The points of a curve at a speed, and the segment that a pump works on.
 ghost use Rattle.std.specs.Prelude.{
   ◌≡◌,
   ◌+◌,

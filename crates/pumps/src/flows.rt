@@ -1,3 +1,4 @@
+//! What goes through a pump.
 ghost use Rattle.std.specs.Prelude.{
   ◌≡◌,
   ◌+◌,

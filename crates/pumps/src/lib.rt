@@ -8,6 +8,3 @@ mod curves;
 mod flows;
 
 pub use flows::pump_flow;
-
-#[cfg(test)]
-mod tests;

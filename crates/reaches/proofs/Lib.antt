@@ -5,3 +5,4 @@ pub mod Read
 pub mod Sizes
 pub mod Whole
 pub mod Good
+pub mod Level

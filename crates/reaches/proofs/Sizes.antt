@@ -8,9 +8,6 @@ use Rattle.std.proofs.lemmas.Nat.{mul-le}
 use Rattle.case_model.specs.Formulas.{cut}
 use Rattle.case_model.specs.Division.{are_accepted}
 
-pub fits : (z : ℤ) → unsigned_abs z ≤ 1000000000000000000 → FitsSigned w64 z
-fits z h = fits_signed_from_abs w64 z (omega arith)
-
 -- a part of a whole is no larger than the whole
 part_below : (x n d i : ℕ) → 0 < n → i ≤ n → 2 * x * n ≤ 2 * (d * i) + n → x ≤ d
 part_below x n d i p k m =
@@ -22,8 +19,8 @@ share_below difference place reaches x k p m =
     let e = unsigned_abs-mul difference place in
     part_below (unsigned_abs x) (unsigned_abs reaches) (unsigned_abs difference) (unsigned_abs place) (omega (arith, ints)) k (rw (← e) m)
 
-pub share_fits : (difference place : ℤ) → unsigned_abs difference ≤ 20000000000 → unsigned_abs place ≤ 4294967295 → FitsSigned w128 (difference *ℤ place)
-share_fits difference place h k = fits_signed_mul w128 difference place 20000000000 4294967295 h k (omega arith)
+pub share_fits : (difference place : ℤ) → unsigned_abs difference ≤ 200000000000 → unsigned_abs place ≤ 4294967295 → FitsSigned w128 (difference *ℤ place)
+share_fits difference place h k = fits_signed_mul w128 difference place 200000000000 4294967295 h k (omega arith)
 
 -- a number is within its limits exactly where the cut one is
 kept : (most x : ℤ) → int_le x most ≡ true → cut most x ≡ x

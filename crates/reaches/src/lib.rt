@@ -15,5 +15,5 @@ mod tested;
 mod valves;
 
 pub use division::divide;
-pub use elevations::elevation;
+pub use elevations::{elevation, elevation_between, node_elevation};
 pub use formulas::coefficients;

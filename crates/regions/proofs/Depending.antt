@@ -9,7 +9,7 @@ use Rattle.case_model.specs.declared.points.Point.TheVariants.{Bad}
 use Rattle.case_model.specs.declared.states.NodeState.{NodeState}
 use Rattle.case_model.specs.Meaning.{Meaning}
 use Rattle.case_model.specs.Mesh.{reaches, ends_of, next_to, end_node, end_index}
-use Rattle.case_model.specs.RowLaws.{length-near, near-at}
+use Rattle.case_model.proofs.RowLaws.{length-near, near-at}
 use Rattle.case_model.specs.Rows.{Row, near, node_ends, end_point, next}
 use Rattle.regions.specs.declared.shapes.Spot.{Spot}
 use Rattle.regions.specs.declared.shapes.Spot.TheVariants.{AtNode, Inside}

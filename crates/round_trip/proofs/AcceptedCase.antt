@@ -6,24 +6,20 @@ use Rattle.case_model.specs.Division.{mesh_of}
 use Rattle.case_model.specs.Refusals.{passes}
 use Rattle.case_model.specs.Sets.{IsEmpty, AreEmpty}
 use Rattle.case_model.specs.Search.{Refusal}
-use Rattle.case_model.specs.SearchLaws.{FirstOrNone}
+use Rattle.case_model.specs.Bounds.{FirstOrNone}
 use Rattle.case_rules.specs.Said.{lines_of}
 use Rattle.case_rules.specs.Among.{line_rules}
 use Rattle.case_rules.specs.Counts.{count_rules}
 use Rattle.case_writing.specs.CaseText.{case_text}
 use Rattle.netfile.specs.Built.{case_of}
 use Rattle.netfile.specs.Verdict.{all_passes, refusal_of, judged, too_long, verdict}
-use Rattle.netfile.proofs.Judged.{refusal_first}
+use Rattle.netfile.proofs.Judged.{refusal_first, some_pipe}
 use Rattle.netfile.proofs.PartCounts.{some_pipe_in}
 use Rattle.netfile.proofs.Readable.{is_read}
 use Rattle.round_trip.specs.Renumbered.{renumbered}
 use Rattle.round_trip.specs.Writable.{IsWritable}
 use Rattle.round_trip.proofs.LawBack.{mesh_reads_back}
 use Rattle.round_trip.proofs.NamesKept.{names_spelt, names_apart}
-
-some_pipe : (lines : List (List (List ℕ))) → IsEmpty (count_rules lines) → 0 < length (case_of lines).pipes
-unfolding case_of
-some_pipe lines counts = some_pipe_in lines counts
 
 -- the case of lines that the four passes accept
 pub lines_writable : (lines : List (List (List ℕ))) → IsEmpty (line_rules lines) → IsEmpty (count_rules lines) → AreEmpty (passes (case_of lines)) → IsWritable (case_of lines)
@@ -64,9 +60,13 @@ accepted_writable bytes case mesh h =
     let a = accepts_text bytes (case, mesh) h in
     subst IsWritable a.said (lines_writable (lines_of bytes) a.empty.0 a.empty.1.0 a.empty.1.1)
 
+pub accepted_mesh : (bytes : List ℕ) (case : Case) (mesh : Mesh) → verdict bytes ≡ Ok (case, mesh) → mesh_of case ≡ mesh
+accepted_mesh bytes case mesh h =
+    let a = accepts_text bytes (case, mesh) h in
+    sym (ap mesh_of a.said) ∙ a.divided
+
 -- its written text means that case again, with its parts on the lines of that text, and the same mesh
 pub accepted_reads_back : (bytes : List ℕ) (case : Case) (mesh : Mesh) → verdict bytes ≡ Ok (case, mesh) → length (case_text case) ≤ 8_388_608 → verdict (case_text case) ≡ Ok (renumbered case, mesh)
 accepted_reads_back bytes case mesh h l =
-    let a = accepts_text bytes (case, mesh) h in
-    let same : mesh_of case ≡ mesh = sym (ap mesh_of a.said) ∙ a.divided in
+    let same = accepted_mesh bytes case mesh h in
     subst (λ (m : Mesh). verdict (case_text case) ≡ Ok (renumbered case, m)) same (mesh_reads_back case (accepted_writable bytes case mesh h) l)

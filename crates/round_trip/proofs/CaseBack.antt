@@ -1,24 +1,28 @@
 -- The lines of the written text say the case, with its parts on the lines where they stand.
-use Rattle.std.proofs.Common.{ℕ, ◌+◌, ◌≤◌, ◌^◌, ◌≡◌, pos, neg_ℤ, unsigned_abs, Option, Some, None, List, [], ◌∷◌, ◌++◌, map, length, codes, ap, ◌∙◌, refl, arith}
+use Rattle.std.proofs.Common.{inl, inr, Bool, true, false, cond, ◌==◌, eqb-true, sym, ℕ, ◌+◌, ◌≤◌, ◌^◌, ◌≡◌, pos, neg_ℤ, unsigned_abs, Option, Some, None, List, [], ◌∷◌, ◌++◌, map, length, codes, ap, ◌∙◌, refl, arith}
 use Rattle.std.proofs.lemmas.List.{append-nil, append_assoc, get_or-map}
 use Rattle.std.specs.Prelude.{unwrap_or}
+use Rattle.std.specs.List.{find}
 use Rattle.case_model.specs.declared.cases.Case.{Case}
+use Rattle.case_model.specs.declared.cases.Friction.{Friction}
+use Rattle.case_model.specs.declared.cases.Friction.TheVariants.{Explicit, Linear}
 use Rattle.case_model.specs.declared.cases.Table.{Table}
 use Rattle.case_model.specs.declared.cases.Node.{Node}
 use Rattle.case_model.specs.declared.cases.Pipe.{Pipe}
 use Rattle.case_model.specs.declared.cases.Probe.{Probe}
 use Rattle.case_model.specs.declared.cases.ProbeAt.{ProbeAt}
 use Rattle.case_model.specs.declared.cases.ProbeAt.TheVariants.{OnPipe, OnNode}
-use Rattle.case_model.specs.Limits.{IsRead}
+use Rattle.case_model.specs.Limits.{IsVersion, IsRead}
 use Rattle.case_model.specs.Parts.{no_table, no_node, no_pipe}
 use Rattle.case_lines.specs.declared.words.Directive.{Directive}
 use Rattle.case_lines.specs.declared.quantities.Quantity.TheVariants.{TimeStep, StepCount, VapourHead, GrowthWeight, SpeedTolerance, SampleStep}
-use Rattle.case_lines.specs.Words.{single_of, table_of, node_of, directive_of}
-use Rattle.case_rules.specs.Said.{said, is_single, is_single_of}
-use Rattle.case_writing.specs.CaseText.{name_of_table, name_of_node, name_of_pipe}
-use Rattle.netfile.specs.Built.{single_amount, table_index, node_index, pipe_index, table_by, table_said, tables_of, node_by, node_said, nodes_of, pipe_by, pipe_said, pipes_of, probe_by, probe_said, probes_of, case_of}
-use Rattle.round_trip.specs.Lines.{settings_lines, table_line, node_line, pipe_line, probe_line, case_lines}
-use Rattle.round_trip.specs.Renumbered.{tables_on, nodes_on, pipes_on, probes_on, renumbered}
+use Rattle.case_lines.specs.Words.{single_of, table_of, node_of, directive_of, friction_of}
+use Rattle.case_lines.specs.Fields.{heading_version}
+use Rattle.case_rules.specs.Said.{version_of, said, is_single, is_single_of}
+use Rattle.case_writing.specs.CaseText.{version_word, friction_word, name_of_table, name_of_node, name_of_pipe}
+use Rattle.netfile.specs.Built.{friction_by, friction_from, single_amount, table_index, node_index, pipe_index, table_by, table_said, tables_of, node_by, node_said, nodes_of, pipe_by, pipe_said, pipes_of, probe_by, probe_said, probes_of, case_of}
+use Rattle.round_trip.specs.Lines.{settings_lines, part_lines, table_line, node_line, pipe_line, probe_line, case_lines}
+use Rattle.round_trip.specs.Renumbered.{first_part, tables_on, nodes_on, pipes_on, probes_on, renumbered}
 use Rattle.round_trip.specs.Writable.{case_names, AreApart, IsWritable}
 use Rattle.round_trip.proofs.Amounts.{IsSmall, amount_back, small_above, small_between}
 use Rattle.round_trip.proofs.Directives.{spot_directive, of_table, of_node, of_pipe, of_probe}
@@ -113,62 +117,86 @@ unfolding probe_said
 pipe_no_probe pipes nodes written_nodes line p = ap (λ (o : Option Directive). probe_by pipes nodes o line (pipe_line written_nodes p)) (of_pipe written_nodes p)
 
 -- the heading and the settings say no part
-settings_tables : (case : Case) (rest : List (List (List ℕ))) → parts_from table_said 1 (settings_lines case ++ rest) ≡ parts_from table_said 8 rest
+friction_tables : (b : Bool) (f : Friction) (rest : List (List (List ℕ)))
+    → parts_from table_said 8 (cond b [] ((codes "friction" ∷ friction_word f ∷ []) ∷ []) ++ rest) ≡ parts_from table_said (cond b 8 9) rest
+unfolding table_said said directive_of single_of table_of node_of
+friction_tables true f rest = refl
+friction_tables false f rest = refl
+
+settings_tables : (case : Case) (rest : List (List (List ℕ))) → parts_from table_said 1 (settings_lines case ++ rest) ≡ parts_from table_said (first_part case.version) rest
 unfolding settings_lines table_said said directive_of single_of table_of node_of
-settings_tables case rest = refl
+settings_tables case rest = friction_tables (case.version == 1) case.friction rest
 
-settings_nodes : (tables : List Table) (case : Case) (rest : List (List (List ℕ))) → parts_from (node_said tables) 1 (settings_lines case ++ rest) ≡ parts_from (node_said tables) 8 rest
+friction_nodes : (tables : List Table) (b : Bool) (f : Friction) (rest : List (List (List ℕ)))
+    → parts_from (node_said tables) 8 (cond b [] ((codes "friction" ∷ friction_word f ∷ []) ∷ []) ++ rest) ≡ parts_from (node_said tables) (cond b 8 9) rest
+unfolding node_said said directive_of single_of table_of node_of
+friction_nodes tables true f rest = refl
+friction_nodes tables false f rest = refl
+
+settings_nodes : (tables : List Table) (case : Case) (rest : List (List (List ℕ))) → parts_from (node_said tables) 1 (settings_lines case ++ rest) ≡ parts_from (node_said tables) (first_part case.version) rest
 unfolding settings_lines node_said said directive_of single_of table_of node_of
-settings_nodes tables case rest = refl
+settings_nodes tables case rest = friction_nodes tables (case.version == 1) case.friction rest
 
-settings_pipes : (nodes : List Node) (case : Case) (rest : List (List (List ℕ))) → parts_from (pipe_said nodes) 1 (settings_lines case ++ rest) ≡ parts_from (pipe_said nodes) 8 rest
+friction_pipes : (nodes : List Node) (b : Bool) (f : Friction) (rest : List (List (List ℕ)))
+    → parts_from (pipe_said nodes) 8 (cond b [] ((codes "friction" ∷ friction_word f ∷ []) ∷ []) ++ rest) ≡ parts_from (pipe_said nodes) (cond b 8 9) rest
+unfolding pipe_said said directive_of single_of table_of node_of
+friction_pipes nodes true f rest = refl
+friction_pipes nodes false f rest = refl
+
+settings_pipes : (nodes : List Node) (case : Case) (rest : List (List (List ℕ))) → parts_from (pipe_said nodes) 1 (settings_lines case ++ rest) ≡ parts_from (pipe_said nodes) (first_part case.version) rest
 unfolding settings_lines pipe_said said directive_of single_of table_of node_of
-settings_pipes nodes case rest = refl
+settings_pipes nodes case rest = friction_pipes nodes (case.version == 1) case.friction rest
 
-settings_probes : (pipes : List Pipe) (nodes : List Node) (case : Case) (rest : List (List (List ℕ))) → parts_from (probe_said pipes nodes) 1 (settings_lines case ++ rest) ≡ parts_from (probe_said pipes nodes) 8 rest
+friction_probes : (pipes : List Pipe) (nodes : List Node) (b : Bool) (f : Friction) (rest : List (List (List ℕ)))
+    → parts_from (probe_said pipes nodes) 8 (cond b [] ((codes "friction" ∷ friction_word f ∷ []) ∷ []) ++ rest) ≡ parts_from (probe_said pipes nodes) (cond b 8 9) rest
+unfolding probe_said said directive_of single_of table_of node_of
+friction_probes pipes nodes true f rest = refl
+friction_probes pipes nodes false f rest = refl
+
+settings_probes : (pipes : List Pipe) (nodes : List Node) (case : Case) (rest : List (List (List ℕ))) → parts_from (probe_said pipes nodes) 1 (settings_lines case ++ rest) ≡ parts_from (probe_said pipes nodes) (first_part case.version) rest
 unfolding settings_lines probe_said said directive_of single_of table_of node_of
-settings_probes pipes nodes case rest = refl
+settings_probes pipes nodes case rest = friction_probes pipes nodes (case.version == 1) case.friction rest
 
 -- the parts of the lines
-pub tables_back : (case : Case) → IsRead case → tables_of (case_lines case) ≡ tables_on 8 case.tables
+pub tables_back : (case : Case) → IsRead case → tables_of (case_lines case) ≡ tables_on (first_part case.version) case.tables
 tables_back case h =
     tables_in_order 1 (case_lines case) ∙ ap (λ (lines : List (List (List ℕ))). parts_from table_said 1 lines) (lines_right case) ∙ settings_tables case (table_rest case)
-    ∙ taken table_said table_line table_on case.tables 8 (node_rest case) (each_table case.tables h.tables)
-    ∙ ap (λ (ts : List Table). numbered table_on 8 case.tables ++ ts) (
-    skipped table_said (node_line case.tables) case.nodes (8 + length case.tables) (pipe_rest case) (node_no_table case.tables)
-    ∙ skipped table_said (pipe_line case.nodes) case.pipes (8 + length case.tables + length case.nodes) (probe_rest case) (pipe_no_table case.nodes)
-    ∙ skipped table_said (probe_line case.pipes case.nodes) case.probes (8 + length case.tables + length case.nodes + length case.pipes) [] (probe_no_table case.pipes case.nodes)
-    ) ∙ append-nil (numbered table_on 8 case.tables) ∙ tables_numbered 8 case.tables
+    ∙ taken table_said table_line table_on case.tables (first_part case.version) (node_rest case) (each_table case.tables h.tables)
+    ∙ ap (λ (ts : List Table). numbered table_on (first_part case.version) case.tables ++ ts) (
+    skipped table_said (node_line case.tables) case.nodes (first_part case.version + length case.tables) (pipe_rest case) (node_no_table case.tables)
+    ∙ skipped table_said (pipe_line case.nodes) case.pipes (first_part case.version + length case.tables + length case.nodes) (probe_rest case) (pipe_no_table case.nodes)
+    ∙ skipped table_said (probe_line case.pipes case.nodes) case.probes (first_part case.version + length case.tables + length case.nodes + length case.pipes) [] (probe_no_table case.pipes case.nodes)
+    ) ∙ append-nil (numbered table_on (first_part case.version) case.tables) ∙ tables_numbered (first_part case.version) case.tables
 
-nodes_back : (read : List Table) (case : Case) → IsRead case → AreTablesFound read case.tables → parts_from (node_said read) 1 (case_lines case) ≡ nodes_on (8 + length case.tables) case.nodes
+nodes_back : (read : List Table) (case : Case) → IsRead case → AreTablesFound read case.tables → parts_from (node_said read) 1 (case_lines case) ≡ nodes_on (first_part case.version + length case.tables) case.nodes
 nodes_back read case h f =
     ap (λ (lines : List (List (List ℕ))). parts_from (node_said read) 1 lines) (lines_right case) ∙ settings_nodes read case (table_rest case)
-    ∙ skipped (node_said read) table_line case.tables 8 (node_rest case) (table_no_node read)
-    ∙ taken (node_said read) (node_line case.tables) node_on case.nodes (8 + length case.tables) (pipe_rest case) (each_node read case.tables case.nodes f h.nodes)
-    ∙ ap (λ (ns : List Node). numbered node_on (8 + length case.tables) case.nodes ++ ns) (
-    skipped (node_said read) (pipe_line case.nodes) case.pipes (8 + length case.tables + length case.nodes) (probe_rest case) (pipe_no_node read case.nodes)
-    ∙ skipped (node_said read) (probe_line case.pipes case.nodes) case.probes (8 + length case.tables + length case.nodes + length case.pipes) [] (probe_no_node read case.pipes case.nodes)
-    ) ∙ append-nil (numbered node_on (8 + length case.tables) case.nodes) ∙ nodes_numbered (8 + length case.tables) case.nodes
+    ∙ skipped (node_said read) table_line case.tables (first_part case.version) (node_rest case) (table_no_node read)
+    ∙ taken (node_said read) (node_line case.tables) node_on case.nodes (first_part case.version + length case.tables) (pipe_rest case) (each_node read case.tables case.nodes f h.nodes)
+    ∙ ap (λ (ns : List Node). numbered node_on (first_part case.version + length case.tables) case.nodes ++ ns) (
+    skipped (node_said read) (pipe_line case.nodes) case.pipes (first_part case.version + length case.tables + length case.nodes) (probe_rest case) (pipe_no_node read case.nodes)
+    ∙ skipped (node_said read) (probe_line case.pipes case.nodes) case.probes (first_part case.version + length case.tables + length case.nodes + length case.pipes) [] (probe_no_node read case.pipes case.nodes)
+    ) ∙ append-nil (numbered node_on (first_part case.version + length case.tables) case.nodes) ∙ nodes_numbered (first_part case.version + length case.tables) case.nodes
 
-pipes_back : (read : List Node) (case : Case) → IsRead case → AreNodesFound read case.nodes → parts_from (pipe_said read) 1 (case_lines case) ≡ pipes_on (8 + length case.tables + length case.nodes) case.pipes
+pipes_back : (read : List Node) (case : Case) → IsRead case → AreNodesFound read case.nodes → parts_from (pipe_said read) 1 (case_lines case) ≡ pipes_on (first_part case.version + length case.tables + length case.nodes) case.pipes
 pipes_back read case h f =
-    let line = 8 + length case.tables + length case.nodes in
+    let line = first_part case.version + length case.tables + length case.nodes in
     ap (λ (lines : List (List (List ℕ))). parts_from (pipe_said read) 1 lines) (lines_right case) ∙ settings_pipes read case (table_rest case)
-    ∙ skipped (pipe_said read) table_line case.tables 8 (node_rest case) (table_no_pipe read)
-    ∙ skipped (pipe_said read) (node_line case.tables) case.nodes (8 + length case.tables) (pipe_rest case) (node_no_pipe read case.tables)
+    ∙ skipped (pipe_said read) table_line case.tables (first_part case.version) (node_rest case) (table_no_pipe read)
+    ∙ skipped (pipe_said read) (node_line case.tables) case.nodes (first_part case.version + length case.tables) (pipe_rest case) (node_no_pipe read case.tables)
     ∙ taken (pipe_said read) (pipe_line case.nodes) pipe_on case.pipes line (probe_rest case) (each_pipe read case.nodes case.pipes f h.pipes h.joins)
     ∙ ap (λ (ps : List Pipe). numbered pipe_on line case.pipes ++ ps) (skipped (pipe_said read) (probe_line case.pipes case.nodes) case.probes (line + length case.pipes) [] (probe_no_pipe read case.pipes case.nodes))
     ∙ append-nil (numbered pipe_on line case.pipes) ∙ pipes_numbered line case.pipes
 
 probes_back : (read_pipes : List Pipe) (read_nodes : List Node) (case : Case) → IsRead case → ArePipesFound read_pipes case.pipes → AreNodesFound read_nodes case.nodes
-    → parts_from (probe_said read_pipes read_nodes) 1 (case_lines case) ≡ probes_on (8 + length case.tables + length case.nodes + length case.pipes) case.probes
+    → parts_from (probe_said read_pipes read_nodes) 1 (case_lines case) ≡ probes_on (first_part case.version + length case.tables + length case.nodes + length case.pipes) case.probes
 probes_back read_pipes read_nodes case h f g =
-    let line = 8 + length case.tables + length case.nodes + length case.pipes in
+    let line = first_part case.version + length case.tables + length case.nodes + length case.pipes in
     let says = probe_said read_pipes read_nodes in
     ap (λ (lines : List (List (List ℕ))). parts_from says 1 lines) (lines_right case) ∙ settings_probes read_pipes read_nodes case (table_rest case)
-    ∙ skipped says table_line case.tables 8 (node_rest case) (table_no_probe read_pipes read_nodes)
-    ∙ skipped says (node_line case.tables) case.nodes (8 + length case.tables) (pipe_rest case) (node_no_probe read_pipes read_nodes case.tables)
-    ∙ skipped says (pipe_line case.nodes) case.pipes (8 + length case.tables + length case.nodes) (probe_rest case) (pipe_no_probe read_pipes read_nodes case.nodes)
+    ∙ skipped says table_line case.tables (first_part case.version) (node_rest case) (table_no_probe read_pipes read_nodes)
+    ∙ skipped says (node_line case.tables) case.nodes (first_part case.version + length case.tables) (pipe_rest case) (node_no_probe read_pipes read_nodes case.tables)
+    ∙ skipped says (pipe_line case.nodes) case.pipes (first_part case.version + length case.tables + length case.nodes) (probe_rest case) (pipe_no_probe read_pipes read_nodes case.nodes)
     ∙ taken says (probe_line case.pipes case.nodes) probe_on case.probes line [] (each_probe read_pipes case.pipes read_nodes case.nodes case.probes f g h.spots)
     ∙ append-nil (numbered probe_on line case.probes) ∙ probes_numbered line case.probes
 
@@ -255,25 +283,51 @@ every_back : (case : Case) → IsRead case → unsigned_abs (single_amount (code
 unfolding single_amount case_lines settings_lines is_single_of is_single said directive_of single_of table_of node_of
 every_back case h = ap unsigned_abs (amount_back SampleStep (pos case.every) (count_back case.every h.few_every))
 
+-- the version and how friction is taken
+word_back : (v : ℕ) → IsVersion v → heading_version (codes "surge" ∷ version_word v ∷ []) ≡ v
+unfolding heading_version
+word_back v (inl e) = rw e refl
+word_back v (inr e) = rw e refl
+
+pub version_back : (case : Case) → IsRead case → version_of (case_lines case) ≡ case.version
+unfolding case_lines settings_lines
+version_back case h = word_back case.version h.version
+
+friction_found : (f : Friction) → unwrap_or (friction_of (friction_word f)) Explicit ≡ f
+unfolding friction_of
+friction_found Explicit = refl
+friction_found Linear = refl
+
+friction_given : (b : Bool) (f : Friction) (rest : List (List (List ℕ))) → (b ≡ true → f ≡ Explicit)
+    → cond b Explicit (friction_by (find (is_single_of (codes "friction")) (cond b [] ((codes "friction" ∷ friction_word f ∷ []) ∷ []) ++ rest))) ≡ f
+unfolding is_single_of is_single said directive_of single_of table_of node_of
+friction_given true f rest h = sym (h refl)
+friction_given false f rest h = friction_found f
+
+friction_back : (case : Case) → IsRead case → friction_from case.version (case_lines case) ≡ case.friction
+unfolding friction_from case_lines settings_lines is_single_of is_single said directive_of single_of table_of node_of
+friction_back case h =
+    friction_given (case.version == 1) case.friction (part_lines case) (λ e. h.friction (eqb-true case.version 1 e))
+
 -- the parts with those before them as they are read
-pub nodes_read : (case : Case) → IsRead case → AreNamesApart case → nodes_of (case_lines case) ≡ nodes_on (8 + length case.tables) case.nodes
+pub nodes_read : (case : Case) → IsRead case → AreNamesApart case → nodes_of (case_lines case) ≡ nodes_on (first_part case.version + length case.tables) case.nodes
 nodes_read case h a =
-    rw (tables_back case h) (nodes_in_order (tables_on 8 case.tables) 1 (case_lines case) ∙ nodes_back (tables_on 8 case.tables) case h (tables_found 8 case.tables a.tables))
+    rw (tables_back case h) (nodes_in_order (tables_on (first_part case.version) case.tables) 1 (case_lines case) ∙ nodes_back (tables_on (first_part case.version) case.tables) case h (tables_found (first_part case.version) case.tables a.tables))
 
-pub pipes_read : (case : Case) → IsRead case → AreNamesApart case → pipes_of (case_lines case) ≡ pipes_on (8 + length case.tables + length case.nodes) case.pipes
+pub pipes_read : (case : Case) → IsRead case → AreNamesApart case → pipes_of (case_lines case) ≡ pipes_on (first_part case.version + length case.tables + length case.nodes) case.pipes
 pipes_read case h a =
-    rw (nodes_read case h a) (pipes_in_order (nodes_on (8 + length case.tables) case.nodes) 1 (case_lines case) ∙ pipes_back (nodes_on (8 + length case.tables) case.nodes) case h (nodes_found (8 + length case.tables) case.nodes a.nodes))
+    rw (nodes_read case h a) (pipes_in_order (nodes_on (first_part case.version + length case.tables) case.nodes) 1 (case_lines case) ∙ pipes_back (nodes_on (first_part case.version + length case.tables) case.nodes) case h (nodes_found (first_part case.version + length case.tables) case.nodes a.nodes))
 
-pub probes_read : (case : Case) → IsRead case → AreNamesApart case → probes_of (case_lines case) ≡ probes_on (8 + length case.tables + length case.nodes + length case.pipes) case.probes
+pub probes_read : (case : Case) → IsRead case → AreNamesApart case → probes_of (case_lines case) ≡ probes_on (first_part case.version + length case.tables + length case.nodes + length case.pipes) case.probes
 probes_read case h a =
-    let ns = nodes_on (8 + length case.tables) case.nodes in
-    let ps = pipes_on (8 + length case.tables + length case.nodes) case.pipes in
+    let ns = nodes_on (first_part case.version + length case.tables) case.nodes in
+    let ps = pipes_on (first_part case.version + length case.tables + length case.nodes) case.pipes in
     rw (pipes_read case h a, nodes_read case h a) (probes_in_order ps ns 1 (case_lines case)
-    ∙ probes_back ps ns case h (pipes_found (8 + length case.tables + length case.nodes) case.pipes a.pipes) (nodes_found (8 + length case.tables) case.nodes a.nodes))
+    ∙ probes_back ps ns case h (pipes_found (first_part case.version + length case.tables + length case.nodes) case.pipes a.pipes) (nodes_found (first_part case.version + length case.tables) case.nodes a.nodes))
 
 pub case_back : (case : Case) → IsWritable case → case_of (case_lines case) ≡ renumbered case
 unfolding case_of renumbered
 case_back case w =
     let h = w.read in
     let a = names_apart case w.once in
-    rw (dt_back case h, steps_back case h, vapour_back case h, weight_back case h, tolerance_back case h, every_back case h, probes_read case h a, pipes_read case h a, nodes_read case h a, tables_back case h) refl
+    rw (version_back case h, friction_back case h, dt_back case h, steps_back case h, vapour_back case h, weight_back case h, tolerance_back case h, every_back case h, probes_read case h a, pipes_read case h a, nodes_read case h a, tables_back case h) refl

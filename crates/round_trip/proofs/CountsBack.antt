@@ -12,7 +12,7 @@ use Rattle.case_rules.specs.Counts.{is_table, is_node, is_pipe, is_sampled, coun
 use Rattle.netfile.specs.Built.{tables_of, nodes_of, pipes_of}
 use Rattle.netfile.proofs.PartCounts.{tables_count, nodes_count, pipes_count, probes_count}
 use Rattle.round_trip.specs.Lines.{settings_lines, case_lines}
-use Rattle.round_trip.specs.Renumbered.{tables_on}
+use Rattle.round_trip.specs.Renumbered.{first_part, tables_on}
 use Rattle.round_trip.specs.Writable.{IsWritable}
 use Rattle.round_trip.proofs.CaseBack.{AreNamesApart, names_apart, tables_back, nodes_read, pipes_read, probes_read}
 use Rattle.round_trip.proofs.DivisionBack.{nodes_length, pipes_length, probes_length}
@@ -23,18 +23,18 @@ tables_length line (t ∷ ts) = omega (arith, tables_length (line + 1) ts)
 
 -- as many parts of each kind as the case has
 count_tables : (case : Case) → IsRead case → count_of is_table (case_lines case) ≡ length case.tables
-count_tables case h = sym (tables_count 1 (case_lines case)) ∙ ap length (tables_back case h) ∙ tables_length 8 case.tables
+count_tables case h = sym (tables_count 1 (case_lines case)) ∙ ap length (tables_back case h) ∙ tables_length (first_part case.version) case.tables
 
 count_nodes : (case : Case) → IsRead case → AreNamesApart case → count_of is_node (case_lines case) ≡ length case.nodes
-count_nodes case h a = sym (nodes_count (tables_of (case_lines case)) 1 (case_lines case)) ∙ ap length (nodes_read case h a) ∙ nodes_length (8 + length case.tables) case.nodes
+count_nodes case h a = sym (nodes_count (tables_of (case_lines case)) 1 (case_lines case)) ∙ ap length (nodes_read case h a) ∙ nodes_length (first_part case.version + length case.tables) case.nodes
 
 count_pipes : (case : Case) → IsRead case → AreNamesApart case → count_of is_pipe (case_lines case) ≡ length case.pipes
-count_pipes case h a = sym (pipes_count (nodes_of (case_lines case)) 1 (case_lines case)) ∙ ap length (pipes_read case h a) ∙ pipes_length (8 + length case.tables + length case.nodes) case.pipes
+count_pipes case h a = sym (pipes_count (nodes_of (case_lines case)) 1 (case_lines case)) ∙ ap length (pipes_read case h a) ∙ pipes_length (first_part case.version + length case.tables + length case.nodes) case.pipes
 
 count_probes : (case : Case) → IsRead case → AreNamesApart case → count_of is_sampled (case_lines case) ≡ length case.probes
 count_probes case h a =
     sym (probes_count (pipes_of (case_lines case)) (nodes_of (case_lines case)) 1 (case_lines case)) ∙ ap length (probes_read case h a)
-    ∙ probes_length (8 + length case.tables + length case.nodes + length case.pipes) case.probes
+    ∙ probes_length (first_part case.version + length case.tables + length case.nodes + length case.pipes) case.probes
 
 -- the two directives that a case needs
 has_step : (case : Case) → list_any (is_single_of (codes "step")) (case_lines case) ≡ true

@@ -21,7 +21,7 @@ use Rattle.case_model.specs.Formulas.{reach_count, b_of, r_of}
 use Rattle.case_model.specs.Parts.{no_pipe, no_node, no_table, no_probe, pipe_at, node_at, table_at, probe_at}
 use Rattle.case_model.specs.Division.{is_adjusted, has_coefficients, is_divided, divides, place_base, reaches_at, b_at, pipe_mesh, node_ends, mesh_of}
 use Rattle.case_model.specs.Refusals.{is_through, valve_over, is_outside, exceeds, breaks_pipe, breaks_node, is_off, pipe_rules, node_rules, probe_rules, part_rules, sample_count, is_too_large, size_rules, passes}
-use Rattle.round_trip.specs.Renumbered.{tables_on, nodes_on, pipes_on, probes_on, renumbered}
+use Rattle.round_trip.specs.Renumbered.{first_part, tables_on, nodes_on, pipes_on, probes_on, renumbered}
 
 -- what doesn't hang on the line of a part
 pipe_kept : {Y : Type 0} (f : Pipe → Y) → ((p : Pipe) (line : ℕ) → f (record p { line = line }) ≡ f p) → (line : ℕ) (ps : List Pipe) (k : ℕ) → f (get_or (pipes_on line ps) k no_pipe) ≡ f (get_or ps k no_pipe)
@@ -81,35 +81,35 @@ breaks_same dt tolerance number p line = refl
 -- the same at each pipe of a case
 divides_kept : (case : Case) (p : ℕ) → divides (renumbered case) p ≡ divides case p
 unfolding divides renumbered
-divides_kept case p = pipe_kept (is_divided case.dt case.tolerance) (divided_same case.dt case.tolerance) (8 + length case.tables + length case.nodes) case.pipes p
+divides_kept case p = pipe_kept (is_divided case.dt case.tolerance) (divided_same case.dt case.tolerance) (first_part case.version + length case.tables + length case.nodes) case.pipes p
 
 reaches_kept : (case : Case) (p : ℕ) → reaches_at (renumbered case) p ≡ reaches_at case p
 unfolding renumbered
-reaches_kept case p = pipe_kept (reach_count case.dt) (reach_same case.dt) (8 + length case.tables + length case.nodes) case.pipes p
+reaches_kept case p = pipe_kept (reach_count case.dt) (reach_same case.dt) (first_part case.version + length case.tables + length case.nodes) case.pipes p
 
 b_kept : (case : Case) (p : ℕ) → b_at (renumbered case) p ≡ b_at case p
 unfolding renumbered
-b_kept case p = pipe_kept (λ (x : Pipe). b_of case.dt (reach_count case.dt x) x) (b_same case.dt) (8 + length case.tables + length case.nodes) case.pipes p
+b_kept case p = pipe_kept (λ (x : Pipe). b_of case.dt (reach_count case.dt x) x) (b_same case.dt) (first_part case.version + length case.tables + length case.nodes) case.pipes p
 
 r_kept : (case : Case) (p : ℕ) → r_of (reaches_at (renumbered case) p) (pipe_at (renumbered case) p) ≡ r_of (reaches_at case p) (pipe_at case p)
 unfolding renumbered
-r_kept case p = pipe_kept (λ (x : Pipe). r_of (reach_count case.dt x) x) (r_same case.dt) (8 + length case.tables + length case.nodes) case.pipes p
+r_kept case p = pipe_kept (λ (x : Pipe). r_of (reach_count case.dt x) x) (r_same case.dt) (first_part case.version + length case.tables + length case.nodes) case.pipes p
 
 pipe_breaks_kept : (case : Case) (p number : ℕ) → breaks_pipe (renumbered case).dt (renumbered case).tolerance (pipe_at (renumbered case) p) number ≡ breaks_pipe case.dt case.tolerance (pipe_at case p) number
 unfolding renumbered
-pipe_breaks_kept case p number = pipe_kept (λ (x : Pipe). breaks_pipe case.dt case.tolerance x number) (breaks_same case.dt case.tolerance number) (8 + length case.tables + length case.nodes) case.pipes p
+pipe_breaks_kept case p number = pipe_kept (λ (x : Pipe). breaks_pipe case.dt case.tolerance x number) (breaks_same case.dt case.tolerance number) (first_part case.version + length case.tables + length case.nodes) case.pipes p
 
 gas_kept : (case : Case) (t : ℕ) → (table_at (renumbered case) t).points ≡ (table_at case t).points
 unfolding renumbered
-gas_kept case t = points_kept 8 case.tables t
+gas_kept case t = points_kept (first_part case.version) case.tables t
 
 kind_kept : (case : Case) (k : ℕ) → (node_at (renumbered case) k).kind ≡ (node_at case k).kind
 unfolding renumbered
-kind_kept case k = node_kept (λ (n : Node). n.kind) (λ n line. refl) (8 + length case.tables) case.nodes k
+kind_kept case k = node_kept (λ (n : Node). n.kind) (λ n line. refl) (first_part case.version + length case.tables) case.nodes k
 
 at_kept : (case : Case) (q : ℕ) → (probe_at (renumbered case) q).at ≡ (probe_at case q).at
 unfolding renumbered
-at_kept case q = spot_kept (8 + length case.tables + length case.nodes + length case.pipes) case.probes q
+at_kept case q = spot_kept (first_part case.version + length case.tables + length case.nodes + length case.pipes) case.probes q
 
 ends_same : (k index line : ℕ) (ps : List Pipe) → ends_at k index (pipes_on line ps) ≡ ends_at k index ps
 ends_same k index line [] = refl
@@ -117,7 +117,7 @@ ends_same k index line (p ∷ ps) = ap (λ (es : List End). cons_option (end_if 
 
 ends_kept : (case : Case) (k : ℕ) → node_ends (renumbered case) k ≡ node_ends case k
 unfolding renumbered
-ends_kept case k = ends_same k 0 (8 + length case.tables + length case.nodes) case.pipes
+ends_kept case k = ends_same k 0 (first_part case.version + length case.tables + length case.nodes) case.pipes
 
 -- the numbers of a node
 valve_kept : (case : Case) (q0 h0 : ℤ) (ends : List End) → valve_over (renumbered case) q0 h0 ends ≡ valve_over case q0 h0 ends
@@ -137,7 +137,7 @@ exceeds_kept case (Tank area start) ends = refl
 exceeds_kept case (Vessel gas volume) ends = ap (λ (points : List (ℤ × ℤ)). is_outside points volume) (gas_kept case gas)
 
 node_breaks_of : (case : Case) (n m : Node) (e f : List End) (number : ℕ) → n.kind ≡ m.kind → e ≡ f → breaks_node (renumbered case) n e number ≡ breaks_node case m f number
-unfolding breaks_node
+unfolding breaks_node renumbered
 node_breaks_of case n m e f number k s = rw (s, k, exceeds_kept case m.kind f) refl
 
 node_breaks_kept : (case : Case) (k number : ℕ) → breaks_node (renumbered case) (node_at (renumbered case) k) (node_ends (renumbered case) k) number ≡ breaks_node case (node_at case k) (node_ends case k) number
@@ -163,25 +163,25 @@ unfolding place_base renumbered
 base_kept case p =
     omega (
       arith,
-      nodes_length (8 + length case.tables) case.nodes,
-      sum_same (λ (q : Pipe). reach_count case.dt q + 1) (λ q line. ap (λ (n : ℕ). n + 1) (reach_same case.dt q line)) p (8 + length case.tables + length case.nodes) case.pipes,
+      nodes_length (first_part case.version + length case.tables) case.nodes,
+      sum_same (λ (q : Pipe). reach_count case.dt q + 1) (λ q line. ap (λ (n : ℕ). n + 1) (reach_same case.dt q line)) p (first_part case.version + length case.tables + length case.nodes) case.pipes,
     )
 
 pub count_pipes : (case : Case) → length (renumbered case).pipes ≡ length case.pipes
 unfolding renumbered
-count_pipes case = pipes_length (8 + length case.tables + length case.nodes) case.pipes
+count_pipes case = pipes_length (first_part case.version + length case.tables + length case.nodes) case.pipes
 
 pub count_nodes : (case : Case) → length (renumbered case).nodes ≡ length case.nodes
 unfolding renumbered
-count_nodes case = nodes_length (8 + length case.tables) case.nodes
+count_nodes case = nodes_length (first_part case.version + length case.tables) case.nodes
 
 pub count_probes : (case : Case) → length (renumbered case).probes ≡ length case.probes
 unfolding renumbered
-count_probes case = probes_length (8 + length case.tables + length case.nodes + length case.pipes) case.probes
+count_probes case = probes_length (first_part case.version + length case.tables + length case.nodes + length case.pipes) case.probes
 
 samples_kept : (case : Case) → sample_count (renumbered case) ≡ sample_count case
 unfolding sample_count renumbered
-samples_kept case = rw (probes_length (8 + length case.tables + length case.nodes + length case.pipes) case.probes) refl
+samples_kept case = rw (probes_length (first_part case.version + length case.tables + length case.nodes + length case.pipes) case.probes) refl
 
 size_kept : (case : Case) → is_too_large (renumbered case) ≡ is_too_large case
 size_kept case = rw (count_pipes case, base_kept case (length case.pipes), samples_kept case) refl
@@ -200,22 +200,22 @@ below rules n f line number t =
     let s : a.1 ≡ a.0 = sym a.3 ∙ get_or-range_with_len 0 n a.0 a.1 l ∙ omega arith in
     f a.1 (omega arith) line number a.4
 
-moved : (l m : ℕ) (breaks others : ℕ → Bool) → ((n : ℕ) → others n ≡ breaks n) → IsEmpty (on_line l breaks) → IsEmpty (on_line m others)
+pub moved : (l m : ℕ) (breaks others : ℕ → Bool) → ((n : ℕ) → others n ≡ breaks n) → IsEmpty (on_line l breaks) → IsEmpty (on_line m others)
 moved l m breaks others s e line number t = e l number (and_from (l == l) (breaks number) (eq-eqb l l refl) (sym (s number) ∙ (and_parts (m == line) (others number) t).1))
 
-left_empty : (a b : Rules) → IsEmpty (either a b) → IsEmpty a
+pub left_empty : (a b : Rules) → IsEmpty (either a b) → IsEmpty a
 left_empty a b e line number t = e line number (or_left (a line number) (b line number) t)
 
-right_empty : (a b : Rules) → IsEmpty (either a b) → IsEmpty b
+pub right_empty : (a b : Rules) → IsEmpty (either a b) → IsEmpty b
 right_empty a b e line number t = e line number (or_right (a line number) (b line number) t)
 
-both_empty : (a b : Rules) → IsEmpty a → IsEmpty b → IsEmpty (either a b)
+pub both_empty : (a b : Rules) → IsEmpty a → IsEmpty b → IsEmpty (either a b)
 both_empty a b e f line number t = elim (or_cases (a line number) (b line number) t) [
   | inl h ↦ e line number h
   | inr h ↦ f line number h
 ]
 
-all_moved : (rules others : ℕ → Rules) (n m : ℕ) → m ≡ n → ((k : ℕ) → IsEmpty (rules k) → IsEmpty (others k)) → IsEmpty (any_below rules n) → IsEmpty (any_below others m)
+pub all_moved : (rules others : ℕ → Rules) (n m : ℕ) → m ≡ n → ((k : ℕ) → IsEmpty (rules k) → IsEmpty (others k)) → IsEmpty (any_below rules n) → IsEmpty (any_below others m)
 all_moved rules others n m s f e = below others m (λ k l. f k (above rules n k e (omega arith)))
 
 parts_empty : (case : Case) → IsEmpty (part_rules case) → IsEmpty (part_rules (renumbered case))

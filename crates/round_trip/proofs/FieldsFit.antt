@@ -5,20 +5,23 @@ use Rattle.std.proofs.lemmas.Int.{ints}
 use Rattle.std.specs.List.{list_any}
 use Rattle.fixed_num.specs.Written.{written}
 use Rattle.case_model.specs.declared.cases.Case.{Case}
+use Rattle.case_model.specs.declared.cases.Friction.{Friction}
+use Rattle.case_model.specs.declared.cases.Friction.TheVariants.{Explicit, Linear}
 use Rattle.case_model.specs.declared.cases.TableKind.{TableKind}
 use Rattle.case_model.specs.declared.cases.Value.{Value}
 use Rattle.case_model.specs.declared.cases.Value.TheVariants.{Fixed, ByTable}
 use Rattle.case_model.specs.Limits.{IsWithin, IsTableOf, IsValue}
 use Rattle.case_lines.specs.declared.quantities.Quantity.{Quantity}
 use Rattle.case_lines.specs.declared.fields.FieldKind.{FieldKind}
-use Rattle.case_lines.specs.declared.fields.FieldKind.TheVariants.{NewName, NodeName, PipeName, Reference, Number, Value as ValueField}
+use Rattle.case_lines.specs.declared.fields.FieldKind.TheVariants.{NewName, NodeName, PipeName, Reference, Number, Value as ValueField, FrictionWord}
 use Rattle.case_lines.specs.Quantities.{limits, is_spelt, is_outside}
 use Rattle.case_lines.specs.Fields.{is_name, is_reference}
-use Rattle.case_lines.specs.Alone.{breaks_name, breaks_reference, breaks_number, breaks_field}
+use Rattle.case_lines.specs.Words.{friction_of}
+use Rattle.case_lines.specs.Alone.{breaks_name, breaks_reference, breaks_number, breaks_friction, breaks_field}
 use Rattle.case_rules.specs.declared.parts.Part.TheVariants.{ATable, ANode, APipe}
 use Rattle.case_rules.specs.Said.{defines_part}
 use Rattle.case_rules.specs.Among.{is_unknown}
-use Rattle.case_writing.specs.CaseText.{name_of_table, name_of_node, name_of_pipe, value_text, reference_text}
+use Rattle.case_writing.specs.CaseText.{friction_word, name_of_table, name_of_node, name_of_pipe, value_text, reference_text}
 use Rattle.round_trip.specs.Writable.{IsNameText}
 use Rattle.round_trip.proofs.Amounts.{IsSmall, quantity_back, unmarked, small_above}
 
@@ -102,6 +105,16 @@ table_fit all case q kind t a h = record {
   alone = reference_unbroken (name_of_table case.tables t) (a.table_names t h.there);
   known = not_of (list_any (defines_part (ATable kind) (name_of_table case.tables t)) all) (a.tables kind t h);
 }
+
+-- a word on friction
+word_unbroken : (f : Friction) (number : ℕ) → breaks_friction (friction_word f) number ≡ false
+unfolding breaks_friction friction_of
+word_unbroken Explicit number = and_right (number == 4) false refl
+word_unbroken Linear number = and_right (number == 4) false refl
+
+pub word_fit : (all : List (List (List ℕ))) (f : Friction) → IsFit all FrictionWord (friction_word f)
+unfolding breaks_field is_unknown
+word_fit all f = record { alone = word_unbroken f; known = refl }
 
 -- what a number of a quantity must be
 pub record IsAmount (q : Quantity) (x : ℤ) : Type 0 where

@@ -25,3 +25,4 @@ pub mod Apart
 pub mod NamesGiven
 pub mod NamesKept
 pub mod AcceptedCase
+pub mod Upgraded

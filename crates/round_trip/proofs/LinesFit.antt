@@ -20,22 +20,25 @@ use Rattle.case_model.specs.Limits.{IsWithin, IsHead, IsFlow, IsEntry, IsInOrder
 use Rattle.case_lines.specs.declared.words.NodeWord.{NodeWord}
 use Rattle.case_lines.specs.declared.words.Directive.{Directive}
 use Rattle.case_lines.specs.declared.words.Directive.TheVariants.{OfTable, OfNode, OfPipe}
-use Rattle.case_lines.specs.declared.quantities.Quantity.TheVariants.{Time, Head, Flow, Opening, SpeedRatio, CurveFlow, CurveRise, Volume, Elevation, ValveFlow, ValveLoss, Area, Length, Diameter, WaveSpeed, Friction, PipePlace}
+use Rattle.case_lines.specs.declared.quantities.Quantity.TheVariants.{Time, Head, Flow, Opening, SpeedRatio, CurveFlow, CurveRise, Volume, Elevation, ValveFlow, ValveLoss, Area, Length, Diameter, WaveSpeed, FrictionFactor, PipePlace}
 use Rattle.case_lines.specs.declared.fields.FieldKind.{FieldKind}
 use Rattle.case_lines.specs.declared.fields.FieldKind.TheVariants.{NewName, NodeName, Number}
 use Rattle.case_lines.specs.Fields.{field, first_quantity, second_quantity, node_fields, pipe_fields, probe_fields, field_kind, has_count, has_too_many}
+use Rattle.case_lines.specs.Words.{has_directive}
 use Rattle.case_lines.specs.Tables.{rises, falls, may_follow, may_begin, follow, is_ordered, is_disordered}
-use Rattle.case_rules.specs.Said.{said}
+use Rattle.case_rules.specs.Said.{version_of, said}
 use Rattle.case_writing.specs.CaseText.{name_of_node, name_of_pipe, count_text, first_places, second_places, entry_fields, kind_fields, pipe_names, pipe_numbers, spot_fields}
 use Rattle.round_trip.specs.Lines.{table_line, node_line, pipe_line, probe_line}
 use Rattle.round_trip.specs.Writable.{IsNameText}
 use Rattle.round_trip.proofs.Directives.{kind_word, spot_directive, of_table, of_node, of_pipe, of_probe}
 use Rattle.round_trip.proofs.TablesBack.{first_field, second_field, length_pairs, pair_back, pairs_counted}
 use Rattle.round_trip.proofs.FieldsFit.{IsFit, AreKnown, IsAmount, new_fit, node_fit, pipe_fit, reference_fit, amount_fit, value_fit, above, sized}
+use Rattle.netfile.proofs.TableLimits.{least_some}
 
 -- a line that breaks no rule by itself, and whose fields name what is there
 pub record IsFitLine (all : List (List (List ℕ))) (d : Directive) (fields : List (List ℕ)) : Type 0 where
   pub said : said fields ≡ Some d
+  pub allowed : has_directive (version_of all) d ≡ true
   pub some : 0 < length fields
   pub count : has_count d (length fields) ≡ true
   pub few : has_too_many d (length fields) ≡ false
@@ -139,6 +142,7 @@ node_line_fit all case n a h name =
     let f = kind_fit all case n.kind a h.kind in
     let c = fit_count all (node_fields (kind_word n.kind)) (kind_fields case.tables n.kind) f in record {
       said = of_node case.tables n;
+      allowed = refl;
       some = omega arith;
       count = eq-eqb (length (node_line case.tables n)) (length (node_fields (kind_word n.kind)) + 3) (omega arith);
       few = refl;
@@ -165,7 +169,7 @@ pipe_fields_fit all case p a h j name = (
           amount_fit all Diameter p.diameter (above Diameter 20 10_000 p.diameter refl refl (omega arith) h.diameter),
           (
             amount_fit all WaveSpeed p.speed (above WaveSpeed 10_000 2_000_000 p.speed refl refl (omega arith) h.speed),
-            (amount_fit all Friction p.friction (above Friction 0 500_000 p.friction refl refl (omega arith) h.friction), (amount_fit all Flow p.flow (flow_amount p.flow h.flow), tt)),
+            (amount_fit all FrictionFactor p.friction (above FrictionFactor 0 500_000 p.friction refl refl (omega arith) h.friction), (amount_fit all Flow p.flow (flow_amount p.flow h.flow), tt)),
           ),
         ),
       ),
@@ -177,6 +181,7 @@ pub pipe_line_fit : (all : List (List (List ℕ))) (case : Case) (p : Pipe) → 
 unfolding pipe_line has_count has_too_many is_disordered field_kind
 pipe_line_fit all case p a h j name = record {
   said = of_pipe case.nodes p;
+  allowed = refl;
   some = omega arith;
   count = refl;
   few = refl;
@@ -203,6 +208,7 @@ spot_line_fit : (all : List (List (List ℕ))) (case : Case) (at : ProbeAt) → 
 unfolding has_count has_too_many is_disordered field_kind
 spot_line_fit all case (OnPipe pipe place) a h s = record {
   said = s;
+  allowed = refl;
   some = omega arith;
   count = refl;
   few = refl;
@@ -211,6 +217,7 @@ spot_line_fit all case (OnPipe pipe place) a h s = record {
 }
 spot_line_fit all case (OnNode node) a h s = record {
   said = s;
+  allowed = refl;
   some = omega arith;
   count = refl;
   few = refl;
@@ -327,14 +334,6 @@ all_from : (p : ℕ → Bool) (i n : ℕ) → ((k : ℕ) → i ≤ k → k < i +
 all_from p i zero f = refl
 all_from p i (suc n) f = and_from (p i) (list_all p (range_with_len (i + 1) n)) (f i (omega arith) (omega arith)) (all_from p (i + 1) n (λ k a l. f k (omega arith) (omega arith)))
 
-some_points : (kind : TableKind) → 1 ≤ least_entries kind
-some_points Heads = omega arith
-some_points Flows = omega arith
-some_points Openings = omega arith
-some_points Speeds = omega arith
-some_points Curve = omega arith
-some_points Gas = omega arith
-
 follow_fit : (kind : TableKind) (word name : List ℕ) (points : List (ℤ × ℤ)) → All (IsEntry kind) points → IsInOrder kind points → follow kind (word ∷ name ∷ flat_map (entry_fields kind) points) (length points) ≡ true
 unfolding follow
 follow_fit kind word name points e h =
@@ -358,9 +357,10 @@ table_line_fit all t h name =
     let some = h.some in
     let few = h.few in record {
       said = of_table t;
+      allowed = refl;
       some = omega arith;
       count = and_from (length (table_line t) % 2 == 0) (nat_le (2 * least_entries t.kind + 2) (length (table_line t))) (eq-eqb (length (table_line t) % 2) 0 (omega arith)) (le-leb (2 * least_entries t.kind + 2) (length (table_line t)) (omega arith));
       few = le-ltb (2 * most_entries t.kind + 2) (length (table_line t)) (omega arith);
-      ordered = rw (ordered_fit t.kind _ t.name t.points (let l = some_points t.kind in omega arith) h.entries h.sorted) refl;
+      ordered = rw (ordered_fit t.kind _ t.name t.points (let l = least_some t.kind in omega arith) h.entries h.sorted) refl;
       fit = table_fields_fit all t.kind _ t.name t.points h.entries (new_fit all t.name name);
     }

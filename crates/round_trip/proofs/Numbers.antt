@@ -1,5 +1,6 @@
 -- Numbers as a case text writes them: what bytes they have, and what they read as.
 use Rattle.std.proofs.Common.{ℕ, ℤ, pos, negsuc, zero, suc, ◌+◌, ◌/◌, ◌%◌, ◌^◌, ◌<◌, ◌≤◌, ◌≡◌, ◌==◌, Bool, true, false, cond, List, [], ◌∷◌, ◌++◌, length, length-append, unsigned_abs, Ok, refl, arith}
+use Rattle.std.proofs.lemmas.Bool.{and_from}
 use Rattle.std.specs.List.{list_all}
 use Rattle.std.specs.Fmt.{decimal, digits, digits_onto, digit_glyph}
 use Rattle.std.proofs.lemmas.List.Folds.{list_all-append}
@@ -7,7 +8,7 @@ use Rattle.fixed_num.specs.Decimal.{number_of}
 use Rattle.fixed_num.specs.Written.{written, sign, fraction_text, last_digits}
 use Rattle.fixed_num.proofs.Back.{back}
 use Rattle.round_trip.specs.Plain.{is_number_byte, is_plain_byte, is_plain}
-use Rattle.round_trip.proofs.Tests.{and_both, all_weaker}
+use Rattle.round_trip.proofs.Tests.{all_weaker}
 
 pub number_back : (places : ℕ) (x : ℤ) → places ≤ 12 → unsigned_abs x ≤ 1_000_000_000_000_000_000 → number_of places (written places x) ≡ Ok x
 number_back places x few small = back places x small
@@ -26,7 +27,7 @@ all_onto : (k n : ℕ) (acc : List ℕ) → list_all is_number_byte acc ≡ true
 all_onto zero n acc h = h
 all_onto (suc k) n acc h =
     let more = digit_glyph false (n % 10) ∷ acc in
-    let e : list_all is_number_byte more ≡ true = and_both _ _ (is_glyph n) h in
+    let e : list_all is_number_byte more ≡ true = and_from _ _ (is_glyph n) h in
     one_of (λ (xs : List ℕ). list_all is_number_byte xs ≡ true) (n / 10 == 0) more (digits_onto k 10 false (n / 10) more) e (all_onto k (n / 10) more e)
 
 more_onto : (k n : ℕ) (acc : List ℕ) → 0 < length acc → 0 < length (digits_onto k 10 false n acc)
@@ -53,7 +54,7 @@ some_decimal n = some_onto 64 n (omega arith)
 
 all_last : (k n : ℕ) → list_all is_number_byte (last_digits k n) ≡ true
 all_last zero n = refl
-all_last (suc k) n = and_both _ _ (is_digit_of (n / 10 ^ k)) (all_last k n)
+all_last (suc k) n = and_from _ _ (is_digit_of (n / 10 ^ k)) (all_last k n)
 
 all_fraction : (places n : ℕ) → list_all is_number_byte (fraction_text places n) ≡ true
 all_fraction zero n = refl

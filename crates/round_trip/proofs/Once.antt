@@ -1,5 +1,5 @@
 -- What lines name is named once: no name is defined twice, and no single directive stands twice.
-use Rattle.std.proofs.Common.{inl, inr, ℕ, zero, suc, ◌+◌, ◌<◌, ◌≡◌, ◌&&◌, not, Bool, true, false, cond, Some, List, [], ◌∷◌, ◌++◌, map, take, length, get_or, codes, sym, ap, ◌∙◌, refl, arith, length-append}
+use Rattle.std.proofs.Common.{inl, inr, ◌==◌, ℕ, zero, suc, ◌+◌, ◌<◌, ◌≡◌, ◌&&◌, not, Bool, true, false, cond, Some, List, [], ◌∷◌, ◌++◌, map, take, length, get_or, codes, sym, ap, ◌∙◌, refl, arith, length-append}
 use Rattle.std.proofs.lemmas.Bool.{and_parts, or_cases, both_ways, false_from_ne_true, lt-ltb, not-true}
 use Rattle.std.proofs.lemmas.List.{append_assoc, append-nil, get_or_append_left, get_or-append-add, get_or_at}
 use Rattle.std.proofs.lemmas.List.Concat.{flat_map-append}
@@ -8,6 +8,7 @@ use Rattle.std.proofs.lemmas.Slice.Eq.{bytes_eq-Decides}
 use Rattle.std.specs.List.{list_any, flat_map}
 use Rattle.std.specs.Str.{bytes_eq}
 use Rattle.case_model.specs.declared.cases.Case.{Case}
+use Rattle.case_model.specs.declared.cases.Friction.{Friction}
 use Rattle.case_model.specs.declared.cases.Table.{Table}
 use Rattle.case_model.specs.declared.cases.Node.{Node}
 use Rattle.case_model.specs.declared.cases.Pipe.{Pipe}
@@ -17,6 +18,7 @@ use Rattle.case_model.specs.declared.cases.ProbeAt.TheVariants.{OnPipe, OnNode}
 use Rattle.case_lines.specs.Fields.{field}
 use Rattle.case_lines.specs.Words.{single_of, table_of, node_of, directive_of}
 use Rattle.case_rules.specs.Said.{line_at, said, named_by, is_some_part, is_definition, defines, is_single_directive, is_single, is_single_of}
+use Rattle.case_writing.specs.CaseText.{friction_word}
 use Rattle.round_trip.specs.Lines.{settings_lines, table_line, node_line, pipe_line, probe_line, case_lines}
 use Rattle.round_trip.specs.Writable.{case_names, AreApart}
 use Rattle.round_trip.proofs.CaseBack.{table_rest, lines_right}
@@ -113,9 +115,14 @@ probe_defines : (pipes : List Pipe) (nodes : List Node) (q : Probe) → named is
 unfolding is_definition
 probe_defines pipes nodes q = rw (of_probe pipes nodes q, spot_part q.at) refl
 
+friction_define : (b : Bool) (f : Friction) (rest : List (List (List ℕ))) → flat_map (named is_definition 1) (cond b [] ((codes "friction" ∷ friction_word f ∷ []) ∷ []) ++ rest) ≡ flat_map (named is_definition 1) rest
+unfolding is_definition said directive_of single_of table_of node_of
+friction_define true f rest = refl
+friction_define false f rest = refl
+
 settings_define : (case : Case) (rest : List (List (List ℕ))) → flat_map (named is_definition 1) (settings_lines case ++ rest) ≡ flat_map (named is_definition 1) rest
 unfolding settings_lines is_definition said directive_of single_of table_of node_of
-settings_define case rest = refl
+settings_define case rest = friction_define (case.version == 1) case.friction rest
 
 four : (f : List (List ℕ) → List (List ℕ)) (a b c d : List (List (List ℕ))) → flat_map f (a ++ (b ++ (c ++ (d ++ [])))) ≡ flat_map f a ++ flat_map f b ++ flat_map f c ++ flat_map f d
 four f a b c d = simp (flat_map-append, append_assoc, append-nil)
@@ -134,12 +141,23 @@ names_defined case =
     (append-nil (map (λ (t : Table). t.name) case.tables ++ map (λ (n : Node). n.name) case.nodes ++ map (λ (p : Pipe). p.name) case.pipes))
 
 -- which lines have a single directive
-abbrev single_words : List (List ℕ)
-single_words = codes "step" ∷ codes "steps" ∷ codes "vapour" ∷ codes "weight" ∷ codes "tolerance" ∷ codes "every" ∷ []
+abbrev friction_words : Bool → List (List ℕ)
+friction_words first = cond first [] (codes "friction" ∷ [])
 
-settings_single : (case : Case) (rest : List (List (List ℕ))) → flat_map (named is_single 0) (settings_lines case ++ rest) ≡ single_words ++ flat_map (named is_single 0) rest
+abbrev single_words : Bool → List (List ℕ)
+single_words first =
+    codes "step" ∷ codes "steps" ∷ codes "vapour" ∷ codes "weight" ∷ codes "tolerance" ∷ codes "every" ∷ friction_words first
+
+friction_single : (b : Bool) (f : Friction) (rest : List (List (List ℕ))) → flat_map (named is_single 0) (cond b [] ((codes "friction" ∷ friction_word f ∷ []) ∷ []) ++ rest) ≡ friction_words b ++ flat_map (named is_single 0) rest
+unfolding is_single said directive_of single_of table_of node_of
+friction_single true f rest = refl
+friction_single false f rest = refl
+
+settings_single : (case : Case) (rest : List (List (List ℕ))) → flat_map (named is_single 0) (settings_lines case ++ rest) ≡ single_words (case.version == 1) ++ flat_map (named is_single 0) rest
 unfolding settings_lines is_single said directive_of single_of table_of node_of
-settings_single case rest = refl
+settings_single case rest =
+    ap (λ (words : List (List ℕ)). codes "step" ∷ codes "steps" ∷ codes "vapour" ∷ codes "weight" ∷ codes "tolerance" ∷ codes "every" ∷ words)
+    (friction_single (case.version == 1) case.friction rest)
 
 table_single : (t : Table) → named is_single 0 (table_line t) ≡ []
 unfolding is_single
@@ -161,18 +179,18 @@ probe_single : (pipes : List Pipe) (nodes : List Node) (q : Probe) → named is_
 unfolding is_single
 probe_single pipes nodes q = rw (of_probe pipes nodes q, spot_single q.at) refl
 
-singles_said : (case : Case) → flat_map (named is_single 0) (case_lines case) ≡ single_words
+singles_said : (case : Case) → flat_map (named is_single 0) (case_lines case) ≡ single_words (case.version == 1)
 singles_said case =
-    ap (λ (lines : List (List (List ℕ))). flat_map (named is_single 0) lines) (lines_right case) ∙ settings_single case (table_rest case)
-    ∙ ap (λ (xs : List (List ℕ)). single_words ++ xs) (
+    let none : flat_map (named is_single 0) (table_rest case) ≡ [] =
     four (named is_single 0) (map table_line case.tables) (map (node_line case.tables) case.nodes) (map (pipe_line case.nodes) case.pipes) (map (probe_line case.pipes case.nodes) case.probes)
     ∙ rw (
       none_names is_single 0 table_line table_single case.tables,
       none_names is_single 0 (node_line case.tables) (node_single case.tables) case.nodes,
       none_names is_single 0 (pipe_line case.nodes) (pipe_single case.nodes) case.pipes,
       none_names is_single 0 (probe_line case.pipes case.nodes) (probe_single case.pipes case.nodes) case.probes,
-    ) refl
-    )
+    ) refl in
+    ap (λ (lines : List (List (List ℕ))). flat_map (named is_single 0) lines) (lines_right case) ∙ settings_single case (table_rest case)
+    ∙ ap (λ (xs : List (List ℕ)). single_words (case.version == 1) ++ xs) none ∙ append-nil (single_words (case.version == 1))
 
 -- that no two texts are equal, as a test
 abbrev are_apart : List (List ℕ) → Bool
@@ -195,5 +213,11 @@ apart_tested (x ∷ xs) t (suc i) (suc j) a b e =
 pub names_once : (case : Case) → AreApart (case_names case) → AreApart (flat_map (named is_definition 1) (case_lines case))
 names_once case h = apart_of (case_names case) (flat_map (named is_definition 1) (case_lines case)) (sym (names_defined case)) h
 
+words_once : (first : Bool) → AreApart (single_words first)
+words_once true = apart_tested (single_words true) refl
+words_once false = apart_tested (single_words false) refl
+
 pub singles_once : (case : Case) → AreApart (flat_map (named is_single 0) (case_lines case))
-singles_once case = apart_of single_words (flat_map (named is_single 0) (case_lines case)) (sym (singles_said case)) (apart_tested single_words refl)
+singles_once case =
+    apart_of (single_words (case.version == 1)) (flat_map (named is_single 0) (case_lines case)) (sym (singles_said case))
+    (words_once (case.version == 1))

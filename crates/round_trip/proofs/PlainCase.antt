@@ -1,5 +1,5 @@
 -- The lines of a case that reads back have plain fields.
-use Rattle.std.proofs.Common.{ℕ, ℤ, pos, ◌<◌, ◌≡◌, true, List, [], ◌∷◌, ◌++◌, length, map, get_or, refl, arith}
+use Rattle.std.proofs.Common.{ℕ, ℤ, pos, ◌<◌, ◌≡◌, ◌==◌, cond, Bool, true, false, List, [], ◌∷◌, ◌++◌, length, map, get_or, refl, arith}
 use Rattle.std.specs.Prelude.{codes}
 use Rattle.std.specs.List.{All, flat_map}
 use Rattle.std.proofs.lemmas.List.Elements.{All-append, All-cons, All-nil, All-head, All-tail, All-map, All-weaker}
@@ -7,6 +7,8 @@ use Rattle.fixed_num.specs.Written.{written}
 use Rattle.case_model.specs.Limits.{IsHead, IsFlow, IsWithin, IsValue, IsKind, IsNode, IsJoined, IsSpot}
 use Rattle.case_model.specs.Parts.{no_table, no_node, no_pipe}
 use Rattle.case_model.specs.declared.cases.Case.{Case}
+use Rattle.case_model.specs.declared.cases.Friction.{Friction}
+use Rattle.case_model.specs.declared.cases.Friction.TheVariants.{Explicit, Linear}
 use Rattle.case_model.specs.declared.cases.Table.{Table}
 use Rattle.case_model.specs.declared.cases.TableKind.{TableKind}
 use Rattle.case_model.specs.declared.cases.TableKind.TheVariants.{Heads, Flows, Openings, Speeds, Curve, Gas}
@@ -19,21 +21,13 @@ use Rattle.case_model.specs.declared.cases.Pipe.{Pipe}
 use Rattle.case_model.specs.declared.cases.Probe.{Probe}
 use Rattle.case_model.specs.declared.cases.ProbeAt.{ProbeAt}
 use Rattle.case_model.specs.declared.cases.ProbeAt.TheVariants.{OnPipe, OnNode}
-use Rattle.case_writing.specs.CaseText.{count_text, value_text, reference_text, name_of_table, name_of_node, name_of_pipe, table_word, first_places, second_places, entry_fields, node_word, kind_fields, pipe_names, pipe_numbers, spot_fields}
-use Rattle.round_trip.specs.Lines.{settings_lines, table_line, node_line, pipe_line, probe_line, case_lines}
+use Rattle.case_writing.specs.CaseText.{count_text, version_word, friction_word, value_text, reference_text, name_of_table, name_of_node, name_of_pipe, table_word, first_places, second_places, entry_fields, node_word, kind_fields, pipe_names, pipe_numbers, spot_fields}
+use Rattle.round_trip.specs.Lines.{settings_lines, friction_lines, table_line, node_line, pipe_line, probe_line, case_lines}
 use Rattle.round_trip.specs.Plain.{is_plain, IsPlainLine}
 use Rattle.round_trip.specs.Writable.{IsNameText, IsWritable, case_names}
 use Rattle.round_trip.proofs.Tests.{name_plain, marked_plain}
 use Rattle.round_trip.proofs.Numbers.{written_plain}
-
--- what holds of the first and of the second of two lists, and of the items of a list by a part of each
-all_first : {X : Type 0} (P : X → Type 0) (xs ys : List X) → All P (xs ++ ys) → All P xs
-all_first P [] ys h = All-nil P
-all_first P (x ∷ xs) ys h = All-cons P x xs (All-head P x (xs ++ ys) h) (all_first P xs ys (All-tail P x (xs ++ ys) h))
-
-all_second : {X : Type 0} (P : X → Type 0) (xs ys : List X) → All P (xs ++ ys) → All P ys
-all_second P [] ys h = h
-all_second P (x ∷ xs) ys h = all_second P xs ys (All-tail P x (xs ++ ys) h)
+use Rattle.case_model.proofs.ListFacts.{all_left, all_right}
 
 all_unmapped : {X Y : Type 0} (P : X → Type 0) (f : Y → X) (ys : List Y) → All P (map f ys) → All (λ y. P (f y)) ys
 all_unmapped P f [] h = All-nil (λ y. P (f y))
@@ -53,11 +47,11 @@ plain_names case h =
     let ps = map (λ (p : Pipe). p.name) case.pipes in
     let P = λ (name : List ℕ). is_plain name ≡ true in
     let all : All P (ts ++ ns ++ ps) = All-weaker IsNameText P (λ name i. name_plain name i.spelt) (ts ++ ns ++ ps) h in
-    let front : All P (ts ++ ns) = all_first P (ts ++ ns) ps all in
+    let front : All P (ts ++ ns) = all_left P (ts ++ ns) ps all in
     record {
-      tables = all_unmapped P (λ (t : Table). t.name) case.tables (all_first P ts ns front);
-      nodes = all_unmapped P (λ (n : Node). n.name) case.nodes (all_second P ts ns front);
-      pipes = all_unmapped P (λ (p : Pipe). p.name) case.pipes (all_second P (ts ++ ns) ps all);
+      tables = all_unmapped P (λ (t : Table). t.name) case.tables (all_left P ts ns front);
+      nodes = all_unmapped P (λ (n : Node). n.name) case.nodes (all_right P ts ns front);
+      pipes = all_unmapped P (λ (p : Pipe). p.name) case.pipes (all_right P (ts ++ ns) ps all);
     }
 
 -- fields that are plain
@@ -86,17 +80,30 @@ more fields lines h k = record { each = All-cons IsPlainLine fields lines h k.ea
 setting : (word text : List ℕ) (lines : List (List (List ℕ))) → is_plain word ≡ true → is_plain text ≡ true → ArePlainLines lines → ArePlainLines ((word ∷ text ∷ []) ∷ lines)
 setting word text lines h i k = more (word ∷ text ∷ []) lines (line word (text ∷ []) h (one text [] i none)) k
 
+version_plain : (b : Bool) → is_plain (cond b (codes "1") (codes "2")) ≡ true
+version_plain true = refl
+version_plain false = refl
+
+friction_word_plain : (f : Friction) → is_plain (friction_word f) ≡ true
+friction_word_plain Explicit = refl
+friction_word_plain Linear = refl
+
+friction_plain : (b : Bool) (f : Friction) → ArePlainLines (cond b [] ((codes "friction" ∷ friction_word f ∷ []) ∷ []))
+friction_plain true f = record { each = All-nil IsPlainLine }
+friction_plain false f =
+    setting (codes "friction") (friction_word f) [] refl (friction_word_plain f) (record { each = All-nil IsPlainLine })
+
 settings_plain : (case : Case) → ArePlainLines (settings_lines case)
 unfolding settings_lines
 settings_plain case =
-    setting (codes "surge") (codes "1") _ refl refl
+    setting (codes "surge") (version_word case.version) _ refl (version_plain (case.version == 1))
     (setting (codes "step") (written 6 case.dt) _ refl (written_plain 6 case.dt)
     (setting (codes "steps") (count_text case.steps) _ refl (written_plain 0 (pos case.steps))
     (setting (codes "vapour") (written 6 case.vapour) _ refl (written_plain 6 case.vapour)
     (setting (codes "weight") (written 1 case.weight) _ refl (written_plain 1 case.weight)
     (setting (codes "tolerance") (written 3 case.tolerance) _ refl (written_plain 3 case.tolerance)
-    (setting (codes "every") (count_text case.every) [] refl (written_plain 0 (pos case.every))
-    (record { each = All-nil IsPlainLine })))))))
+    (setting (codes "every") (count_text case.every) (friction_lines case.version case.friction) refl (written_plain 0 (pos case.every))
+    (friction_plain (case.version == 1) case.friction)))))))
 
 entries_plain : (kind : TableKind) (points : List (ℤ × ℤ)) → ArePlain (flat_map (entry_fields kind) points)
 entries_plain kind [] = none

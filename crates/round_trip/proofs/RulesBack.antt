@@ -1,36 +1,37 @@
 -- The lines of a written case break no rule of lines.
-use Rattle.std.proofs.Common.{inl, inr, ℕ, zero, suc, ◌+◌, ◌-◌, ◌<◌, ◌≤◌, ◌^◌, ◌≡◌, ◌==◌, ◌&&◌, ◌||◌, not, nat_lt, nat_le, Bool, true, false, pos, Some, List, [], ◌∷◌, ◌++◌, map, take, length, codes, subst, ap, refl, arith}
+use Rattle.std.proofs.Common.{inl, inr, ℕ, zero, suc, ◌+◌, ◌-◌, ◌<◌, ◌≤◌, ◌^◌, ◌≡◌, ◌==◌, ◌&&◌, ◌||◌, not, nat_lt, nat_le, Bool, true, false, cond, pos, Some, List, [], ◌∷◌, ◌++◌, map, take, length, codes, subst, ap, refl, arith}
 use Rattle.std.proofs.lemmas.Bool.{and_right, and_parts, or_from, or_cases, ne_eqb, eqb-true, leb-true, ltb-true, both_ways}
 use Rattle.std.proofs.lemmas.Int.{ints}
 use Rattle.std.proofs.lemmas.List.Elements.{All-nil, All-append, All-from_recursion, All-map, All-weaker}
-use Rattle.std.specs.List.{list_any, range_with_len, All}
+use Rattle.std.specs.List.{list_any, range_with_len, All, AllByRecursion}
 use Rattle.fixed_num.specs.Written.{written}
 use Rattle.case_model.specs.declared.cases.Case.{Case}
+use Rattle.case_model.specs.declared.cases.Friction.{Friction}
 use Rattle.case_model.specs.Limits.{IsWithin, IsTable, IsNode, IsPipe, IsJoined, IsSpot, IsRead}
 use Rattle.case_model.specs.Sets.{IsEmpty}
 use Rattle.case_lines.specs.declared.words.Single.{Single}
-use Rattle.case_lines.specs.declared.words.Single.TheVariants.{Step, Steps, Vapour, Weight, Tolerance, Every}
+use Rattle.case_lines.specs.declared.words.Single.TheVariants.{Step, Steps, Vapour, Weight, Tolerance, Every, FrictionForm}
 use Rattle.case_lines.specs.declared.words.Directive.{Directive}
 use Rattle.case_lines.specs.declared.words.Directive.TheVariants.{OfSingle, OfTable, OfNode, OfPipe}
 use Rattle.case_lines.specs.declared.quantities.Quantity.TheVariants.{TimeStep, StepCount, VapourHead, GrowthWeight, SpeedTolerance, SampleStep}
 use Rattle.case_lines.specs.declared.fields.FieldKind.TheVariants.{Number}
-use Rattle.case_lines.specs.Words.{directive_of, single_of, table_of, node_of}
-use Rattle.case_lines.specs.Fields.{field, field_kind, has_count, has_too_many, single_quantity, is_heading}
+use Rattle.case_lines.specs.Words.{directive_of, single_of, table_of, node_of, has_single}
+use Rattle.case_lines.specs.Fields.{field, field_kind, has_count, has_too_many, single_field, is_heading}
 use Rattle.case_lines.specs.Tables.{is_disordered}
 use Rattle.case_lines.specs.Alone.{breaks_field, breaks_fields, is_readable, breaks_counted, breaks_known, breaks_alone}
-use Rattle.case_rules.specs.Said.{line_at, said, is_definition, defines, is_single, is_single_of}
-use Rattle.case_rules.specs.Among.{is_unknown, uses_unknown, breaks_counted as breaks_others, breaks_among, breaks_line, line_rules}
-use Rattle.case_writing.specs.CaseText.{count_text}
-use Rattle.round_trip.specs.Lines.{settings_lines, table_line, node_line, pipe_line, probe_line, case_lines}
+use Rattle.case_rules.specs.Said.{line_at, version_of, said, is_definition, defines, is_single, is_single_of}
+use Rattle.case_rules.specs.Among.{directive_among, is_unknown, uses_unknown, breaks_counted as breaks_others, breaks_among, breaks_line, line_rules}
+use Rattle.case_writing.specs.CaseText.{count_text, version_word, friction_word}
+use Rattle.round_trip.specs.Lines.{settings_lines, friction_lines, table_line, node_line, pipe_line, probe_line, case_lines}
 use Rattle.round_trip.specs.Writable.{IsNameText, IsWritable}
 use Rattle.round_trip.proofs.Amounts.{small_between}
-use Rattle.round_trip.proofs.CaseBack.{table_rest, node_rest, pipe_rest, probe_rest, lines_right}
+use Rattle.round_trip.proofs.CaseBack.{table_rest, node_rest, pipe_rest, probe_rest, lines_right, version_back}
 use Rattle.round_trip.proofs.Directives.{kind_word, spot_directive}
-use Rattle.round_trip.proofs.FieldsFit.{IsFit, IsAmount, amount_fit, above}
+use Rattle.round_trip.proofs.FieldsFit.{IsFit, IsAmount, amount_fit, word_fit, above}
 use Rattle.round_trip.proofs.LinesFit.{IsFitLine, table_line_fit, node_line_fit, pipe_line_fit, probe_line_fit}
 use Rattle.round_trip.proofs.KnownBack.{AreNamed, parts_named, names_known}
-use Rattle.round_trip.proofs.PipesBack.{both}
 use Rattle.round_trip.proofs.Once.{defined_once, single_once, names_once, singles_once}
+use Rattle.case_model.proofs.ListFacts.{all_both}
 
 -- a test that fails at each place of a range fails on the range
 none_of_range : (p : ℕ → Bool) (i n : ℕ) → ((k : ℕ) → i ≤ k → k < i + n → p k ≡ false) → list_any p (range_with_len i n) ≡ false
@@ -58,13 +59,13 @@ counted_unbroken all d fields number f =
 known_unbroken : (all : List (List (List ℕ))) (d : Directive) (fields : List (List ℕ)) (number : ℕ) → IsFitLine all d fields → breaks_known (Some d) fields number ≡ false
 known_unbroken all d fields number f = rw f.count (counted_unbroken all d fields number f)
 
-alone_unbroken : (all : List (List (List ℕ))) (d : Directive) (fields : List (List ℕ)) (line number : ℕ) → (line == 1) ≡ false → IsFitLine all d fields → breaks_alone line fields number ≡ false
+alone_unbroken : (all : List (List (List ℕ))) (d : Directive) (fields : List (List ℕ)) (line number : ℕ) → (line == 1) ≡ false → IsFitLine all d fields → breaks_alone (version_of all) line fields number ≡ false
 unfolding breaks_alone said
 alone_unbroken all d fields line number e f =
     let some = f.some in
     let n : (length fields == 0) ≡ false = ne_eqb (length fields) 0 (λ z. omega arith) in
     let s : directive_of (field fields 0) ≡ Some d = f.said in
-    rw (e, n, s) (known_unbroken all d fields number f)
+    rw (e, n, s, f.allowed) (known_unbroken all d fields number f)
 
 others_unbroken : (before all : List (List (List ℕ))) (d : Directive) (fields : List (List ℕ)) (number : ℕ) → (is_definition fields && list_any (defines (field fields 1)) before) ≡ false → uses_unknown all d fields (length fields - 1) ≡ false
     → (is_single fields && list_any (is_single_of (field fields 0)) before) ≡ false → breaks_others before all d fields number ≡ false
@@ -77,18 +78,19 @@ others_unbroken before all d fields number a b c =
     (and_right (number == 9) (is_single fields && list_any (is_single_of (field fields 0)) before) c)
 
 among_unbroken : (before all : List (List (List ℕ))) (d : Directive) (fields : List (List ℕ)) (number : ℕ) → IsFitLine all d fields → (is_definition fields && list_any (defines (field fields 1)) before) ≡ false
-    → (is_single fields && list_any (is_single_of (field fields 0)) before) ≡ false → breaks_among before all (said fields) fields number ≡ false
+    → (is_single fields && list_any (is_single_of (field fields 0)) before) ≡ false → breaks_among before all (directive_among all fields) fields number ≡ false
 unfolding breaks_among
 among_unbroken before all d fields number f a c =
-    rw f.said (and_right (has_count d (length fields)) (breaks_others before all d fields number) (others_unbroken before all d fields number a (names_found all d fields f) c))
+    rw (f.said, f.allowed) (and_right (has_count d (length fields)) (breaks_others before all d fields number) (others_unbroken before all d fields number a (names_found all d fields f) c))
 
 -- a line behind the first one
 later_unbroken : (before all : List (List (List ℕ))) (d : Directive) (fields : List (List ℕ)) (line number : ℕ) → (line == 1) ≡ false → IsFitLine all d fields → (is_definition fields && list_any (defines (field fields 1)) before) ≡ false
     → (is_single fields && list_any (is_single_of (field fields 0)) before) ≡ false → breaks_line before all line fields number ≡ false
 unfolding breaks_line
 later_unbroken before all d fields line number e f a c =
-    or_from (breaks_alone line fields number) (not (line == 1) && breaks_among before all (said fields) fields number) (alone_unbroken all d fields line number e f)
-    (and_right (not (line == 1)) (breaks_among before all (said fields) fields number) (among_unbroken before all d fields number f a c))
+    or_from (breaks_alone (version_of all) line fields number) (not (line == 1) && breaks_among before all (directive_among all fields) fields number)
+    (alone_unbroken all d fields line number e f)
+    (and_right (not (line == 1)) (breaks_among before all (directive_among all fields) fields number) (among_unbroken before all d fields number f a c))
 
 -- the first line
 heading_unbroken : (before all : List (List (List ℕ))) (fields : List (List ℕ)) (number : ℕ) → is_heading fields ≡ true → breaks_line before all 1 fields number ≡ false
@@ -137,17 +139,17 @@ rules_empty lines f line number t =
     ]
 
 -- the settings
-single_fields_fit : (all : List (List (List ℕ))) (s : Single) (word text : List ℕ) → IsFit all (Number (single_quantity s)) text → (k : ℕ) → 1 ≤ k → k < length (word ∷ text ∷ []) → IsFit all (field_kind (OfSingle s) k) (field (word ∷ text ∷ []) k)
+single_fields_fit : (all : List (List (List ℕ))) (s : Single) (word text : List ℕ) → IsFit all (single_field s) text → (k : ℕ) → 1 ≤ k → k < length (word ∷ text ∷ []) → IsFit all (field_kind (OfSingle s) k) (field (word ∷ text ∷ []) k)
 unfolding field_kind
 single_fields_fit all s word text f zero a l = absurd (omega arith)
 single_fields_fit all s word text f (suc zero) a l = f
 single_fields_fit all s word text f (suc (suc k)) a l = absurd (omega arith)
 
-single_fit : (all : List (List (List ℕ))) (s : Single) (word text : List ℕ) → said (word ∷ text ∷ []) ≡ Some (OfSingle s) → IsFit all (Number (single_quantity s)) text → IsLineFit all (word ∷ text ∷ [])
+single_fit : (all : List (List (List ℕ))) (s : Single) (word text : List ℕ) → said (word ∷ text ∷ []) ≡ Some (OfSingle s) → has_single (version_of all) s ≡ true → IsFit all (single_field s) text → IsLineFit all (word ∷ text ∷ [])
 unfolding has_count has_too_many is_disordered
-single_fit all s word text e f = record {
+single_fit all s word text e a f = record {
   directive = OfSingle s;
-  fit = record { said = e; some = omega arith; count = refl; few = refl; ordered = refl; fit = single_fields_fit all s word text f };
+  fit = record { said = e; allowed = a; some = omega arith; count = refl; few = refl; ordered = refl; fit = single_fields_fit all s word text f };
 }
 
 step_said : (rest : List (List ℕ)) → said (codes "step" ∷ rest) ≡ Some (OfSingle Step)
@@ -174,6 +176,10 @@ every_said : (rest : List (List ℕ)) → said (codes "every" ∷ rest) ≡ Some
 unfolding said directive_of single_of table_of node_of
 every_said rest = refl
 
+friction_said : (rest : List (List ℕ)) → said (codes "friction" ∷ rest) ≡ Some (OfSingle FrictionForm)
+unfolding said directive_of single_of table_of node_of
+friction_said rest = refl
+
 count_within : (n : ℕ) → 1 ≤ n → n ≤ 100_000_000 → IsWithin (pos 1) (pos 100_000_000) (pos n)
 count_within n a b = record { low = omega (arith, ints); high = omega (arith, ints) }
 
@@ -189,22 +195,29 @@ setting_lines case =
     ∷ (codes "weight" ∷ written 1 case.weight ∷ [])
     ∷ (codes "tolerance" ∷ written 3 case.tolerance ∷ [])
     ∷ (codes "every" ∷ count_text case.every ∷ [])
-    ∷ []
+    ∷ friction_lines case.version case.friction
 
-settings_fit : (all : List (List (List ℕ))) (case : Case) → IsRead case → All (IsLineFit all) (setting_lines case)
-settings_fit all case h = All-from_recursion (IsLineFit all) (setting_lines case) (
-  single_fit all Step _ _ (step_said _) (amount_fit all TimeStep case.dt (above TimeStep 1 1_000_000 case.dt refl refl (omega arith) h.dt)),
+-- the line on friction, in the version that has it
+friction_fit : (all : List (List (List ℕ))) (f : Friction) (b : Bool) → (version_of all == 1) ≡ b
+    → AllByRecursion (IsLineFit all) (cond b [] ((codes "friction" ∷ friction_word f ∷ []) ∷ []))
+friction_fit all f true e = tt
+friction_fit all f false e =
+    (single_fit all FrictionForm (codes "friction") (friction_word f) (friction_said _) (rw e refl) (word_fit all f), tt)
+
+settings_fit : (all : List (List (List ℕ))) (case : Case) → IsRead case → (version_of all == 1) ≡ (case.version == 1) → All (IsLineFit all) (setting_lines case)
+settings_fit all case h e = All-from_recursion (IsLineFit all) (setting_lines case) (
+  single_fit all Step _ _ (step_said _) refl (amount_fit all TimeStep case.dt (above TimeStep 1 1_000_000 case.dt refl refl (omega arith) h.dt)),
   (
-    single_fit all Steps _ _ (steps_said _) (amount_fit all StepCount (pos case.steps) (above StepCount 1 100_000_000 (pos case.steps) refl refl (omega arith) (count_within case.steps h.some_steps h.few_steps))),
+    single_fit all Steps _ _ (steps_said _) refl (amount_fit all StepCount (pos case.steps) (above StepCount 1 100_000_000 (pos case.steps) refl refl (omega arith) (count_within case.steps h.some_steps h.few_steps))),
     (
-      single_fit all Vapour _ _ (vapour_said _) (amount_fit all VapourHead case.vapour (vapour_amount case h)),
+      single_fit all Vapour _ _ (vapour_said _) refl (amount_fit all VapourHead case.vapour (vapour_amount case h)),
       (
-        single_fit all Weight _ _ (weight_said _) (amount_fit all GrowthWeight case.weight (above GrowthWeight 5 10 case.weight refl refl (omega arith) h.weight)),
+        single_fit all Weight _ _ (weight_said _) refl (amount_fit all GrowthWeight case.weight (above GrowthWeight 5 10 case.weight refl refl (omega arith) h.weight)),
         (
-          single_fit all Tolerance _ _ (tolerance_said _) (amount_fit all SpeedTolerance case.tolerance (above SpeedTolerance 0 500 case.tolerance refl refl (omega arith) h.tolerance)),
+          single_fit all Tolerance _ _ (tolerance_said _) refl (amount_fit all SpeedTolerance case.tolerance (above SpeedTolerance 0 500 case.tolerance refl refl (omega arith) h.tolerance)),
           (
-            single_fit all Every _ _ (every_said _) (amount_fit all SampleStep (pos case.every) (above SampleStep 1 100_000_000 (pos case.every) refl refl (omega arith) (count_within case.every h.some_every h.few_every))),
-            tt,
+            single_fit all Every _ _ (every_said _) refl (amount_fit all SampleStep (pos case.every) (above SampleStep 1 100_000_000 (pos case.every) refl refl (omega arith) (count_within case.every h.some_every h.few_every))),
+            friction_fit all case.friction (case.version == 1) e,
           ),
         ),
       ),
@@ -222,16 +235,16 @@ parts_fit case h n =
     let known = names_known case n in
     let fits = IsLineFit all in
     All-append fits (map table_line case.tables) (node_rest case)
-    (each_line all (λ t. IsTable t × IsNameText t.name) table_line (λ t k. record { directive = OfTable t.kind; fit = table_line_fit all t k.0 k.1 }) case.tables (both IsTable (λ t. IsNameText t.name) case.tables h.tables n.tables))
+    (each_line all (λ t. IsTable t × IsNameText t.name) table_line (λ t k. record { directive = OfTable t.kind; fit = table_line_fit all t k.0 k.1 }) case.tables (all_both IsTable (λ t. IsNameText t.name) case.tables h.tables n.tables))
     (All-append fits (map (node_line case.tables) case.nodes) (pipe_rest case)
-    (each_line all (λ x. IsNode case.tables x × IsNameText x.name) (node_line case.tables) (λ x k. record { directive = OfNode (kind_word x.kind); fit = node_line_fit all case x known k.0 k.1 }) case.nodes (both (IsNode case.tables) (λ x. IsNameText x.name) case.nodes h.nodes n.nodes))
+    (each_line all (λ x. IsNode case.tables x × IsNameText x.name) (node_line case.tables) (λ x k. record { directive = OfNode (kind_word x.kind); fit = node_line_fit all case x known k.0 k.1 }) case.nodes (all_both (IsNode case.tables) (λ x. IsNameText x.name) case.nodes h.nodes n.nodes))
     (All-append fits (map (pipe_line case.nodes) case.pipes) (probe_rest case)
     (each_line all (λ p. (IsPipe p × IsJoined (length case.nodes) p) × IsNameText p.name) (pipe_line case.nodes) (λ p k. record { directive = OfPipe; fit = pipe_line_fit all case p known k.0.0 k.0.1 k.1 }) case.pipes
-    (both (λ p. IsPipe p × IsJoined (length case.nodes) p) (λ p. IsNameText p.name) case.pipes (both IsPipe (IsJoined (length case.nodes)) case.pipes h.pipes h.joins) n.pipes))
+    (all_both (λ p. IsPipe p × IsJoined (length case.nodes) p) (λ p. IsNameText p.name) case.pipes (all_both IsPipe (IsJoined (length case.nodes)) case.pipes h.pipes h.joins) n.pipes))
     (All-append fits (map (probe_line case.pipes case.nodes) case.probes) []
     (each_line all (λ q. IsSpot (length case.pipes) (length case.nodes) q.at) (probe_line case.pipes case.nodes) (λ q k. record { directive = spot_directive q.at; fit = probe_line_fit all case q known k }) case.probes h.spots) (All-nil fits))))
 
-heading_first : (case : Case) → case_lines case ≡ (codes "surge" ∷ codes "1" ∷ []) ∷ (setting_lines case ++ table_rest case)
+heading_first : (case : Case) → case_lines case ≡ (codes "surge" ∷ version_word case.version ∷ []) ∷ (setting_lines case ++ table_rest case)
 unfolding settings_lines
 heading_first case = lines_right case
 
@@ -244,17 +257,21 @@ fit_behind all lines rest heading e h k l =
 first_of : (lines rest : List (List (List ℕ))) (heading : List (List ℕ)) → lines ≡ heading ∷ rest → is_heading heading ≡ true → is_heading (line_at lines 0) ≡ true
 first_of lines rest heading e h = rw e h
 
+heading_good : (b : Bool) → is_heading (codes "surge" ∷ cond b (codes "1") (codes "2") ∷ []) ≡ true
+heading_good true = refl
+heading_good false = refl
+
 lines_fit : (case : Case) → IsWritable case → AreLinesFit (case_lines case)
 lines_fit case w =
     let h = w.read in
     let n = parts_named case w.names in
     let e = heading_first case in
     let rest = setting_lines case ++ table_rest case in
-    let heading : List (List ℕ) = codes "surge" ∷ codes "1" ∷ [] in
+    let heading : List (List ℕ) = codes "surge" ∷ version_word case.version ∷ [] in
     let m : length (case_lines case) ≡ suc (length rest) = ap length e in record {
       some = omega arith;
-      heading = first_of (case_lines case) rest heading e refl;
-      behind = fit_behind (case_lines case) (case_lines case) rest heading e (All-append (IsLineFit (case_lines case)) (setting_lines case) (table_rest case) (settings_fit (case_lines case) case h) (parts_fit case h n));
+      heading = first_of (case_lines case) rest heading e (heading_good (case.version == 1));
+      behind = fit_behind (case_lines case) (case_lines case) rest heading e (All-append (IsLineFit (case_lines case)) (setting_lines case) (table_rest case) (settings_fit (case_lines case) case h (ap (λ (v : ℕ). v == 1) (version_back case h))) (parts_fit case h n));
       defined = defined_once (case_lines case) (names_once case w.once);
       single = single_once (case_lines case) (singles_once case);
     }

@@ -14,7 +14,7 @@ use Rattle.case_model.specs.declared.cases.ProbeAt.{ProbeAt}
 use Rattle.case_model.specs.declared.cases.ProbeAt.TheVariants.{OnPipe, OnNode}
 use Rattle.case_writing.specs.CaseText.{name_of_table, name_of_node, name_of_pipe, value_text, kind_fields, spot_fields, line_of, case_text}
 use Rattle.round_trip.specs.Lines.{settings_lines, table_line, node_line, pipe_line, probe_line, case_lines}
-use Rattle.round_trip.specs.Renumbered.{tables_on, nodes_on, pipes_on, probes_on, renumbered}
+use Rattle.round_trip.specs.Renumbered.{first_part, tables_on, nodes_on, pipes_on, probes_on, renumbered}
 use Rattle.round_trip.proofs.CaseTexts.{text_of_lines}
 use Rattle.round_trip.proofs.CountsBack.{tables_length}
 use Rattle.round_trip.proofs.DivisionBack.{nodes_length, pipes_length}
@@ -76,10 +76,10 @@ probe_lines first from line ps ns (q ∷ qs) = rw (spot_same first from ps ns q.
 pub lines_same : (case : Case) → case_lines (renumbered case) ≡ case_lines case
 unfolding case_lines settings_lines renumbered
 lines_same case =
-    let nodes = 8 + length case.tables in
-    let pipes = 8 + length case.tables + length case.nodes in
-    let probes = 8 + length case.tables + length case.nodes + length case.pipes in
-    rw (table_lines 8 case.tables, node_lines 8 nodes case.tables case.nodes, pipe_lines nodes pipes case.nodes case.pipes, probe_lines pipes nodes probes case.pipes case.nodes case.probes) refl
+    let nodes = first_part case.version + length case.tables in
+    let pipes = first_part case.version + length case.tables + length case.nodes in
+    let probes = first_part case.version + length case.tables + length case.nodes + length case.pipes in
+    rw (table_lines (first_part case.version) case.tables, node_lines (first_part case.version) nodes case.tables case.nodes, pipe_lines nodes pipes case.nodes case.pipes, probe_lines pipes nodes probes case.pipes case.nodes case.probes) refl
 
 pub text_same : (case : Case) → case_text (renumbered case) ≡ case_text case
 text_same case = sym (text_of_lines (renumbered case)) ∙ ap (λ (lines : List (List (List ℕ))). flat_map line_of lines) (lines_same case) ∙ text_of_lines case
@@ -104,7 +104,7 @@ probes_again from line (q ∷ qs) = ap (λ (us : List Probe). record q { line = 
 pub renumbered_again : (case : Case) → renumbered (renumbered case) ≡ renumbered case
 unfolding renumbered
 renumbered_again case =
-    let nodes = 8 + length case.tables in
-    let pipes = 8 + length case.tables + length case.nodes in
-    let probes = 8 + length case.tables + length case.nodes + length case.pipes in
-    rw (tables_length 8 case.tables, nodes_length nodes case.nodes, pipes_length pipes case.pipes, tables_again 8 8 case.tables, nodes_again nodes nodes case.nodes, pipes_again pipes pipes case.pipes, probes_again probes probes case.probes) refl
+    let nodes = first_part case.version + length case.tables in
+    let pipes = first_part case.version + length case.tables + length case.nodes in
+    let probes = first_part case.version + length case.tables + length case.nodes + length case.pipes in
+    rw (tables_length (first_part case.version) case.tables, nodes_length nodes case.nodes, pipes_length pipes case.pipes, tables_again (first_part case.version) (first_part case.version) case.tables, nodes_again nodes nodes case.nodes, pipes_again pipes pipes case.pipes, probes_again probes probes case.probes) refl

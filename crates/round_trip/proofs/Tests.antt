@@ -1,22 +1,11 @@
 -- Tests of bytes and of lists of bytes.
 use Rattle.std.proofs.Common.{ℕ, ◌≡◌, ◌==◌, ◌&&◌, ◌||◌, not, Bool, true, false, List, [], ◌∷◌, refl, arith}
+use Rattle.std.proofs.lemmas.Bool.{and_parts, and_from}
 use Rattle.std.specs.List.{list_all, All}
 use Rattle.std.proofs.lemmas.List.Elements.{All-nil, All-cons}
 use Rattle.case_lines.specs.Texts.{is_blank}
 use Rattle.case_lines.specs.Fields.{is_name, is_name_byte}
 use Rattle.round_trip.specs.Plain.{is_plain_byte, is_plain}
-
-pub and_left : (a b : Bool) → (a && b) ≡ true → a ≡ true
-and_left true b h = refl
-and_left false b h = h
-
-pub and_right : (a b : Bool) → (a && b) ≡ true → b ≡ true
-and_right true b h = h
-and_right false true h = refl
-and_right false false h = h
-
-pub and_both : (a b : Bool) → a ≡ true → b ≡ true → (a && b) ≡ true
-and_both a b x y = rw (x, y) refl
 
 -- none of four tests passes
 pub record AreNone (a b c d : Bool) : Type 0 where
@@ -38,7 +27,7 @@ plain_byte b h = none_of_four (b == 10) (b == 13) (b == 35) (is_blank b) h
 
 pub all_weaker : (p q : ℕ → Bool) → ((b : ℕ) → p b ≡ true → q b ≡ true) → (xs : List ℕ) → list_all p xs ≡ true → list_all q xs ≡ true
 all_weaker p q w [] h = refl
-all_weaker p q w (x ∷ xs) h = and_both (q x) (list_all q xs) (w x (and_left (p x) (list_all p xs) h)) (all_weaker p q w xs (and_right (p x) (list_all p xs) h))
+all_weaker p q w (x ∷ xs) h = and_from (q x) (list_all q xs) (w x (and_parts (p x) (list_all p xs) h).0) (all_weaker p q w xs (and_parts (p x) (list_all p xs) h).1)
 
 pub all_of_plain : (xs : List ℕ) → is_plain xs ≡ true → list_all is_plain_byte xs ≡ true
 all_of_plain [] h = refl
@@ -47,7 +36,7 @@ all_of_plain (x ∷ xs) h = h
 -- a test that no byte of a kind passes, over bytes of that kind
 pub none_passes : (p q : ℕ → Bool) → ((b : ℕ) → q b ≡ true → p b ≡ false) → (xs : List ℕ) → list_all q xs ≡ true → All (λ b. p b ≡ false) xs
 none_passes p q w [] h = All-nil (λ (b : ℕ). p b ≡ false)
-none_passes p q w (x ∷ xs) h = All-cons (λ (b : ℕ). p b ≡ false) x xs (w x (and_left (q x) (list_all q xs) h)) (none_passes p q w xs (and_right (q x) (list_all q xs) h))
+none_passes p q w (x ∷ xs) h = All-cons (λ (b : ℕ). p b ≡ false) x xs (w x (and_parts (q x) (list_all q xs) h).0) (none_passes p q w xs (and_parts (q x) (list_all q xs) h).1)
 
 name_byte : (b : ℕ) → is_name_byte b ≡ true → is_plain_byte b ≡ true
 name_byte b h = grind arith
@@ -55,7 +44,7 @@ name_byte b h = grind arith
 -- a name is a plain field, also behind a mark
 pub name_plain : (name : List ℕ) → is_name name ≡ true → is_plain name ≡ true
 name_plain [] h = h
-name_plain (b ∷ bs) h = all_weaker is_name_byte is_plain_byte name_byte (b ∷ bs) (and_right _ (list_all is_name_byte (b ∷ bs)) h)
+name_plain (b ∷ bs) h = all_weaker is_name_byte is_plain_byte name_byte (b ∷ bs) (and_parts _ (list_all is_name_byte (b ∷ bs)) h).1
 
 pub marked_plain : (name : List ℕ) → is_plain name ≡ true → is_plain (64 ∷ name) ≡ true
 marked_plain name h = all_of_plain name h

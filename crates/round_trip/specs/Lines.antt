@@ -1,25 +1,31 @@
 -- The lines of the written text of a case, each by its fields.
-use Rattle.std.specs.Prelude.{ℕ, List, [], ◌∷◌, ◌++◌, map, codes}
+use Rattle.std.specs.Prelude.{ℕ, ◌==◌, List, [], ◌∷◌, ◌++◌, if◌then◌else◌, map, codes}
 use Rattle.std.specs.List.{flat_map}
 use Rattle.fixed_num.specs.Written.{written}
 use Rattle.case_model.specs.declared.cases.Case.{Case}
+use Rattle.case_model.specs.declared.cases.Friction.{Friction}
 use Rattle.case_model.specs.declared.cases.Table.{Table}
 use Rattle.case_model.specs.declared.cases.Node.{Node}
 use Rattle.case_model.specs.declared.cases.Pipe.{Pipe}
 use Rattle.case_model.specs.declared.cases.Probe.{Probe}
-use Rattle.case_writing.specs.CaseText.{count_text, table_word, entry_fields, node_word, kind_fields, pipe_names, pipe_numbers, spot_fields}
+use Rattle.case_writing.specs.CaseText.{count_text, version_word, friction_word, table_word, entry_fields, node_word, kind_fields, pipe_names, pipe_numbers, spot_fields}
+
+-- how friction is taken, of which version 1 has no line
+abbrev pub friction_lines : ℕ → Friction → List (List (List ℕ))
+friction_lines version friction =
+    if version == 1 then [] else (codes "friction" ∷ friction_word friction ∷ []) ∷ []
 
 -- the heading and the single directives
 unfoldable pub settings_lines : Case → List (List (List ℕ))
 settings_lines case =
-    (codes "surge" ∷ codes "1" ∷ [])
+    (codes "surge" ∷ version_word case.version ∷ [])
     ∷ (codes "step" ∷ written 6 case.dt ∷ [])
     ∷ (codes "steps" ∷ count_text case.steps ∷ [])
     ∷ (codes "vapour" ∷ written 6 case.vapour ∷ [])
     ∷ (codes "weight" ∷ written 1 case.weight ∷ [])
     ∷ (codes "tolerance" ∷ written 3 case.tolerance ∷ [])
     ∷ (codes "every" ∷ count_text case.every ∷ [])
-    ∷ []
+    ∷ friction_lines case.version case.friction
 
 -- word, name and the two numbers of each pair
 unfoldable pub table_line : Table → List (List ℕ)

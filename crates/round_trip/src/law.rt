@@ -1,3 +1,4 @@
+//! Laws of the round trip of a case.
 ghost use Rattle.std.specs.Prelude.{◌≡◌, ◌≤◌, Ok, length};
 ghost use Rattle.case_model.specs.declared.cases.Case.{Case};
 ghost use Rattle.case_model.specs.Division.{mesh_of};

@@ -1,3 +1,4 @@
+//! Laws of written numbers and lines.
 ghost use Rattle.std.specs.Prelude.{◌≡◌, ◌≤◌, ℕ, ℤ, unsigned_abs, List, All, Ok, true};
 ghost use Rattle.std.specs.List.{flat_map, list_all};
 ghost use Rattle.fixed_num.specs.Decimal.{number_of};

@@ -19,8 +19,8 @@ use Rattle.case_model.specs.Meaning.{Meaning, IsMeaning}
 use Rattle.case_model.specs.Mesh.{IsMesh, IsNumbered, places_before, reaches, ends_of, next_to, end_node, end_index}
 use Rattle.case_model.specs.Places.{is_bad, is_bad_state, bad_places}
 use Rattle.case_model.specs.Range.{IsPoint, IsState}
-use Rattle.case_model.specs.PlaceLaws.{length-places}
-use Rattle.case_model.specs.RowLaws.{length-states, row-good, near-good, state-next, point-inside, pipe-at, point-at, length-points, end-is, length-all_points, length-all_ends, point-first, point-last, points-from, points-good}
+use Rattle.case_model.proofs.PlaceLaws.{length-places}
+use Rattle.case_model.proofs.RowLaws.{length-states, row-good, near-good, state-next, point-inside, pipe-at, point-at, length-points, end-is, length-all_points, length-all_ends, point-first, point-last, points-from, points-good}
 use Rattle.case_model.specs.Rows.{row, near, node_ends, end_point, points, states, all_points, all_ends}
 use Rattle.case_model.specs.Runs.{run_of, point_at}
 use Rattle.row_steps.specs.declared.joints.PipeJoints.{PipeJoints}

@@ -1,4 +1,4 @@
-use Rattle.case_model.specs.FaultLaws.{first_fault-Some, first_fault-only, first_fault-None, first_fault-none_bad}
+use Rattle.case_model.proofs.FaultLaws.{first_fault-Some, first_fault-only, first_fault-None, first_fault-none_bad}
 use Rattle.case_model.proofs.faults.first_fault_is_least.Goals as goal
 
 pub returns-clause-least : goal.returns-clause-least

@@ -1,4 +1,4 @@
-use Rattle.case_model.specs.PlaceLaws.{bad-at_node, bad-at_place, length-bad_places}
+use Rattle.case_model.proofs.PlaceLaws.{bad-at_node, bad-at_place, length-bad_places}
 use Rattle.case_model.proofs.places.places_are_numbered.Goals as goal
 
 pub returns-clause-node : goal.returns-clause-node

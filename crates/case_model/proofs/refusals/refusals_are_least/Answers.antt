@@ -1,6 +1,7 @@
 use Rattle.std.proofs.Common.{Option, subst}
 use Rattle.case_model.specs.Search.{Refusal}
-use Rattle.case_model.specs.SearchLaws.{FirstOrNone, first_is, first_found, first_none}
+use Rattle.case_model.specs.Bounds.{FirstOrNone}
+use Rattle.case_model.proofs.SearchLaws.{first_is, first_found, first_none}
 use Rattle.case_model.proofs.refusals.refusals_are_least.Goals as goal
 
 pub returns-clause-found : goal.returns-clause-found

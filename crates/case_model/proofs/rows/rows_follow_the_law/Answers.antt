@@ -1,5 +1,5 @@
 use Rattle.std.proofs.Common.{ap}
-use Rattle.case_model.specs.RowLaws.{row-start, state-next, point-first, point-last, point-inside, points-good, states-good}
+use Rattle.case_model.proofs.RowLaws.{row-start, state-next, point-first, point-last, point-inside, points-good, states-good}
 use Rattle.case_model.specs.Rows.{Row}
 use Rattle.case_model.proofs.rows.rows_follow_the_law.Goals as goal
 

@@ -2,7 +2,7 @@ use Rattle.std.proofs.Common.{◌≡◌, ◌∙◌, ℕ, ◌<◌, ◌^◌, pos, 
 use Rattle.std.specs.Int.{w128}
 use Rattle.std.proofs.lemmas.Int.{ints}
 use Rattle.case_model.specs.Words.{point_with}
-use Rattle.case_model.specs.WordLaws.{same_numbers}
+use Rattle.case_model.proofs.WordLaws.{same_numbers}
 use Rattle.case_model.proofs.words.good_point.Goals as goal
 
 -- a word less 10^13, in 128 bits

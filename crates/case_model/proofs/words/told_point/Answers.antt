@@ -1,5 +1,5 @@
 use Rattle.std.proofs.Common.{◌∙◌, sym, arith}
-use Rattle.case_model.specs.WordLaws.{tells-none, tells-good, zeros}
+use Rattle.case_model.proofs.WordLaws.{tells-none, tells-good, zeros}
 use Rattle.case_model.proofs.words.told_point.Goals as goal
 
 pub returns-in-Bad : goal.returns-in-Bad

@@ -1,6 +1,6 @@
 use Rattle.std.proofs.Common.{subst, Option}
 use Rattle.case_model.specs.Search.{Refusal}
-use Rattle.case_model.specs.SearchLaws.{FirstOrNone}
+use Rattle.case_model.specs.Bounds.{FirstOrNone}
 use Rattle.netfile.specs.Verdict.{all_passes}
 use Rattle.netfile.proofs.Judged.{refusal_first, refusal_only, refusal_empty}
 use Rattle.netfile.proofs.refusals.refusals_are_first.Goals as goal

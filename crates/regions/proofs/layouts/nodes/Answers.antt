@@ -1,6 +1,6 @@
 use Rattle.std.proofs.Common.{◌∙◌, length, map, ap, refl, arith}
 use Rattle.std.specs.List.{range_with_len}
-use Rattle.case_model.specs.RowLaws.{listed_more}
+use Rattle.case_model.proofs.RowLaws.{listed_more}
 use Rattle.regions.specs.declared.shapes.Shape.TheVariants.{OfNode}
 use Rattle.regions.proofs.layouts.nodes.Goals as goal
 

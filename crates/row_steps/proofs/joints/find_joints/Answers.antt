@@ -1,6 +1,6 @@
 use Rattle.std.proofs.Common.{◌∙◌, length, map, ap, arith}
 use Rattle.std.specs.List.{range_with_len}
-use Rattle.case_model.specs.RowLaws.{listed_more}
+use Rattle.case_model.proofs.RowLaws.{listed_more}
 use Rattle.row_steps.specs.Stepping.{joints_of, all_joints}
 use Rattle.row_steps.proofs.joints.find_joints.Goals as goal
 

@@ -1,7 +1,7 @@
 use Rattle.std.proofs.Common.{◌∙◌, length, [], get_or, replicate, ap, arith}
 use Rattle.std.proofs.lemmas.List.{get_or_read}
 use Rattle.case_model.specs.declared.points.Point.TheVariants.{Bad}
-use Rattle.case_model.specs.RowLaws.{listed_more}
+use Rattle.case_model.proofs.RowLaws.{listed_more}
 use Rattle.row_steps.proofs.Stepped.{ends-of_room}
 use Rattle.row_steps.proofs.start.room_for_ends.Goals as goal
 

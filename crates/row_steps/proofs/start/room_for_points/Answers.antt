@@ -1,7 +1,7 @@
 use Rattle.std.proofs.Common.{◌∙◌, ◌+◌, length, get_or, replicate, ap, arith}
 use Rattle.case_model.specs.declared.points.Point.TheVariants.{Bad}
 use Rattle.case_model.specs.Mesh.{no_pipe}
-use Rattle.case_model.specs.RowLaws.{listed_more}
+use Rattle.case_model.proofs.RowLaws.{listed_more}
 use Rattle.row_steps.proofs.Stepped.{places-of_room}
 use Rattle.row_steps.proofs.start.room_for_points.Goals as goal
 

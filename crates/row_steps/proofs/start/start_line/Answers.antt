@@ -1,6 +1,6 @@
 use Rattle.std.proofs.Common.{◌≡◌, ◌∙◌, ◌+◌, map, ap, sym, arith}
 use Rattle.std.specs.List.{range_with_len}
-use Rattle.case_model.specs.RowLaws.{listed_more, row-start}
+use Rattle.case_model.proofs.RowLaws.{listed_more, row-start}
 use Rattle.case_model.specs.Rows.{Row, row, points}
 use Rattle.row_steps.proofs.start.start_line.Goals as goal
 

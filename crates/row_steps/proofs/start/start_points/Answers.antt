@@ -1,6 +1,6 @@
 use Rattle.std.proofs.Common.{◌∙◌, length, map, ap, arith, rules}
 use Rattle.std.specs.List.{range_with_len}
-use Rattle.case_model.specs.RowLaws.{listed_more}
+use Rattle.case_model.proofs.RowLaws.{listed_more}
 use Rattle.case_model.specs.Rows.{points, all_points}
 use Rattle.row_steps.proofs.start.start_points.Goals as goal
 

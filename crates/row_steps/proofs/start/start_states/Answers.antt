@@ -1,6 +1,6 @@
 use Rattle.std.proofs.Common.{◌∙◌, length, map, ap, sym, arith}
 use Rattle.std.specs.List.{range_with_len}
-use Rattle.case_model.specs.RowLaws.{listed_more, row-start}
+use Rattle.case_model.proofs.RowLaws.{listed_more, row-start}
 use Rattle.case_model.specs.Rows.{Row, row, states}
 use Rattle.row_steps.proofs.start.start_states.Goals as goal
 

@@ -2,7 +2,7 @@ use Rattle.std.proofs.Common.{◌∙◌, length, ap, arith}
 use Rattle.std.specs.List.{list_any}
 use Rattle.std.proofs.lemmas.List.{length-drop, length-set, length-take}
 use Rattle.case_model.specs.Places.{is_bad}
-use Rattle.case_model.specs.RowLaws.{length-points}
+use Rattle.case_model.proofs.RowLaws.{length-points}
 use Rattle.row_steps.proofs.Stepped.{all-in, last-within, pipe-made, stepped}
 use Rattle.row_steps.proofs.step.step_pipe.Goals as goal
 

@@ -2,7 +2,7 @@ use Rattle.std.proofs.Common.{◌≡◌, ◌∙◌, ◌+◌, length, get_or, [],
 use Rattle.std.specs.List.{list_any}
 use Rattle.std.proofs.lemmas.List.{get_or_default, get_or_read}
 use Rattle.case_model.specs.Places.{is_bad}
-use Rattle.case_model.specs.RowLaws.{pipe-at, length-all_points}
+use Rattle.case_model.proofs.RowLaws.{pipe-at, length-all_points}
 use Rattle.case_model.specs.Rows.{points, all_points}
 use Rattle.row_steps.proofs.Filling.{filled-more, filled-all, any-step, any-all}
 use Rattle.row_steps.proofs.Stepped.{length-joints, joint-in, first-given, last-given}
