@@ -5,3 +5,4 @@ pub mod PlaceLaws
 pub mod FaultLaws
 pub mod WordLaws
 pub mod SearchLaws
+pub mod ListFacts

@@ -5,8 +5,8 @@ use Rattle.std.proofs.lemmas.List.FromFn.{length-range_with_len, get_or-range_wi
 use Rattle.std.proofs.lemmas.List.Folds.{list_any_at}
 use Rattle.case_lines.specs.declared.words.Directive.{Directive}
 use Rattle.case_lines.specs.Fields.{field, field_kind}
-use Rattle.case_lines.proofs.Ranges.{any_suc}
 use Rattle.case_rules.specs.Among.{is_unknown, uses_unknown}
+use Rattle.case_model.proofs.Sets.{any_suc}
 
 pub unknown_none : (lines : List (List (List ℕ))) (d : Directive) (fields : List (List ℕ)) → uses_unknown lines d fields 0 ≡ false
 unfolding uses_unknown

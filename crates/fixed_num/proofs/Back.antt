@@ -19,7 +19,7 @@ is_digit_of m = grind arith
 no_point : (x : ℕ) → is_ascii_digit x ≡ true → is_point x ≡ false
 no_point x h = grind arith
 
-no_sign : (x : ℕ) → is_ascii_digit x ≡ true → ((x == 45) ≡ false) × ((x == 43) ≡ false)
+pub no_sign : (x : ℕ) → is_ascii_digit x ≡ true → ((x == 45) ≡ false) × ((x == 43) ≡ false)
 no_sign x h = grind arith
 
 all_last : (k n : ℕ) → list_all is_ascii_digit (last_digits k n) ≡ true
@@ -50,13 +50,13 @@ size_whole : (xs : List ℕ) (n : ℕ) → are_digits xs ≡ true → digits_num
 unfolding size_of
 size_whole xs n d e h = rw d (sized_small xs [] n (ap digits_number (append-nil xs) ∙ e) h)
 
-before_point : (xs ys : List ℕ) → list_all is_ascii_digit xs ≡ true → before_first is_point (xs ++ 46 ∷ ys) ≡ xs
+pub before_point : (xs ys : List ℕ) → list_all is_ascii_digit xs ≡ true → before_first is_point (xs ++ 46 ∷ ys) ≡ xs
 before_point xs ys h = rw (point_after xs ys h) (take-append_seam xs (46 ∷ ys))
 
-after_point : (xs ys : List ℕ) → list_all is_ascii_digit xs ≡ true → after_first is_point (xs ++ 46 ∷ ys) ≡ ys
+pub after_point : (xs ys : List ℕ) → list_all is_ascii_digit xs ≡ true → after_first is_point (xs ++ 46 ∷ ys) ≡ ys
 after_point xs ys h = rw (point_after xs ys h) (drop-append-add xs (46 ∷ ys) 1)
 
-not_digits : (xs ys : List ℕ) → list_all is_ascii_digit xs ≡ true → are_digits (xs ++ 46 ∷ ys) ≡ false
+pub not_digits : (xs ys : List ℕ) → list_all is_ascii_digit xs ≡ true → are_digits (xs ++ 46 ∷ ys) ≡ false
 not_digits xs ys h = rw (list_all-append is_ascii_digit xs (46 ∷ ys), h) (grind arith)
 
 size_point : (xs ys : List ℕ) (n : ℕ) → list_all is_ascii_digit xs ≡ true → 1 ≤ length xs → list_all is_ascii_digit ys ≡ true → 1 ≤ length ys → digits_number (xs ++ ys) ≡ n → n ≤ 10 ^ 18 → size_of (length ys) (xs ++ 46 ∷ ys) ≡ Ok n

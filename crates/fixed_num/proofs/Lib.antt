@@ -5,3 +5,5 @@ pub mod Between
 pub mod Texts
 pub mod Back
 pub mod RootLaws
+pub mod Widths
+pub mod Spellings

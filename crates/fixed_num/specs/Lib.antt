@@ -3,3 +3,4 @@ pub mod Roots
 pub mod Tables
 pub mod Decimal
 pub mod Written
+pub mod Spelled

@@ -1,8 +1,10 @@
 //! Numbers as decimal text: reading.
-ghost use Rattle.std.specs.Prelude.{◌≡◌, ◌+◌, ◌-◌, ◌*◌, ◌^◌, ◌<◌, ◌≤◌, ◌&&◌, min, ℤ, pos, neg_ℤ, unsigned_abs, length, IfOk};
+ghost use Rattle.std.specs.Prelude.{◌≡◌, ◌+◌, ◌-◌, ◌*◌, ◌^◌, ◌<◌, ◌≤◌, ◌&&◌, ◌⊎◌, min, ℕ, ℤ, pos, neg_ℤ, unsigned_abs, List, length, IfOk, Err};
 ghost use Rattle.std.specs.Char.{is_ascii_digit};
 ghost use Rattle.std.specs.List.{fold, list_all, position_or_len};
 ghost use Rattle.fixed_num.specs.Decimal.{push_digit, is_point, are_digits, scaled, sized, parted, capped, size_of, signed_by, number_of};
+ghost use Rattle.fixed_num.specs.Spelled.{IsSpelled, HasSpelling, spelled_number};
+ghost use Rattle.fixed_num.specs.declared.decimal.NumberFault.TheVariants.{Spelling};
 
 use thiserror::Error;
 
@@ -33,6 +35,19 @@ pub fn read_decimal(field: &[u8], places: u32) -> Result<i64, NumberFault>
 {
     read_signed(field, places)
 }
+
+/// The law of numbers: a field is a number exactly where it is a sign or none, one or more digits, and
+/// perhaps a point with one or more digits; it then has the number of these parts, or the fault that
+/// they have, and else the fault of spelling.
+pub fn numbers_are_spelled()
+    ensures number { (places : ℕ) (text sign whole fraction : List ℕ) →
+        IsSpelled text sign whole fraction →
+        number_of places text ≡ spelled_number places sign whole fraction }
+    ensures spelled { (places : ℕ) (text : List ℕ) → HasSpelling text →
+        number_of places text ≡ Err Spelling → ⊥ }
+    ensures either { (places : ℕ) (text : List ℕ) →
+        (number_of places text ≡ Err Spelling) ⊎ HasSpelling text }
+{}
 
 #[tactic(auto, unfolding(crate::specs::Decimal::number_of))]
 fn read_signed(field: &[u8], places: u32) -> Result<i64, NumberFault>

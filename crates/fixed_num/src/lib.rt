@@ -8,8 +8,8 @@ mod rounding;
 mod tables;
 mod written;
 
-pub use decimal::{NumberFault, read_decimal};
-pub use rounding::rnd;
+pub use decimal::{NumberFault, numbers_are_spelled, read_decimal};
 pub use roots::{root, root_is_greatest};
+pub use rounding::rnd;
 pub use tables::interp;
 pub use written::write_decimal;

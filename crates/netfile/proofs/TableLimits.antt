@@ -22,7 +22,8 @@ use Rattle.case_lines.specs.Tables.{pair_count, pair_at, pairs_of, rises, falls,
 use Rattle.case_rules.specs.Said.{said}
 use Rattle.case_rules.specs.Among.{line_rules}
 use Rattle.netfile.specs.Built.{table_by, table_said, tables_from, tables_of}
-use Rattle.netfile.proofs.FieldLimits.{IsKept, IsLine, all_kept, field_kept, size_within, le_of}
+use Rattle.netfile.proofs.FieldLimits.{IsKept, IsLine, all_kept, field_kept, size_within}
+use Rattle.reaches.proofs.Divided.{le_of}
 
 -- so many fields make so many pairs
 record IsCount (least most n : ℕ) : Type 0 where
@@ -139,7 +140,7 @@ ordered_of : (kind : TableKind) (fields : List (List ℕ)) → is_disordered (Of
 unfolding is_disordered
 ordered_of kind fields h = not-false (is_ordered kind fields) h
 
-least_some : (kind : TableKind) → 1 ≤ least_entries kind
+pub least_some : (kind : TableKind) → 1 ≤ least_entries kind
 least_some Heads = omega arith
 least_some Flows = omega arith
 least_some Openings = omega arith

@@ -19,7 +19,7 @@ pub record IsAccepted (n : ℕ) (b r : ℤ) : Type 0 where
 kept : (most x : ℤ) → int_le x most ≡ true → cut most x ≡ x
 kept most x h = rw h refl
 
-le_of : (x y : ℤ) → int_le x y ≡ true → x ≤ℤ y
+pub le_of : (x y : ℤ) → int_le x y ≡ true → x ≤ℤ y
 le_of x y h = grind (arith, ints)
 
 pub accepted : (n : ℕ) (b r : ℤ) → is_count n ≡ true → are_accepted b r ≡ true → IsAccepted n b r

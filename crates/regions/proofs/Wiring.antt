@@ -15,7 +15,8 @@ use Rattle.case_model.specs.Mesh.{is_end, ends_of, end_node, end_index}
 use Rattle.case_model.specs.Parts.{no_pipe}
 use Rattle.case_model.proofs.Keeping.{parts}
 use Rattle.regions.specs.Sides.{no_end, end_at, IsWired}
-use Rattle.regions.proofs.Joining.{any-index, end-is}
+use Rattle.regions.proofs.Joining.{end-is}
+use Rattle.case_model.proofs.ListFacts.{any-index}
 
 -- ---- the ends of a node stand in order of pipes, place 0 first
 

@@ -1,5 +1,5 @@
 -- The part of a difference that a place has of all reaches, and sums over ends.
-use Rattle.std.proofs.Common.{◌≡◌, ℕ, zero, suc, ◌+◌, ◌*◌, ◌<◌, ◌≤◌, List, [], ◌∷◌, length, take, get_or, ℤ, pos, negsuc, neg_ℤ, ◌+ℤ◌, ◌-ℤ◌, ◌*ℤ◌, ◌≤ℤ◌, ◌<ℤ◌, unsigned_abs, refl, ap, sym, ◌∙◌, add-one, arith}
+use Rattle.std.proofs.Common.{◌≡◌, ℕ, zero, suc, ◌+◌, ◌*◌, ◌<◌, ◌≤◌, List, [], ◌∷◌, length, take, get_or, ℤ, pos, negsuc, neg_ℤ, ◌+ℤ◌, ◌*ℤ◌, ◌≤ℤ◌, ◌<ℤ◌, unsigned_abs, refl, ap, sym, ◌∙◌, add-one, arith}
 use Rattle.std.proofs.lemmas.Int.{ints}
 use Rattle.std.proofs.lemmas.Nat.{mul-le, div_below}
 use Rattle.fixed_num.specs.Rounding.{half_up, rnd}
@@ -42,18 +42,6 @@ share_up (negsuc m) place reaches h = absurd (omega (arith, ints))
 pub share_down : (difference : ℤ) (place reaches : ℕ) → difference <ℤ pos 0 → 0 < reaches → rnd (difference *ℤ pos place) (pos reaches) ≡ neg_ℤ (pos (half_up (unsigned_abs difference * place) reaches))
 share_down (pos m) place reaches h some = absurd (omega (arith, ints))
 share_down (negsuc m) place reaches h some = ap (λ (n : ℤ). rnd n (pos reaches)) (times_down m place) ∙ rnd_down (suc m * place) reaches some
-
-no_share : (difference : ℤ) (place reaches : ℕ) → difference ≡ pos 0 → 0 < reaches → rnd (difference *ℤ pos place) (pos reaches) ≡ pos 0
-no_share difference place reaches e some =
-    ap (λ (n : ℤ). rnd (n *ℤ pos place) (pos reaches)) e ∙ ap (λ (n : ℤ). rnd n (pos reaches)) (times_up 0 place) ∙ rnd_up (0 * place) reaches
-    ∙ ap (λ (n : ℕ). pos (half_up n reaches)) (let z : 0 * place ≡ 0 = omega arith in z) ∙ ap pos (half_up-none reaches some)
-
--- between two equal ends nothing changes
-pub same_ends : (first last : ℤ) (place reaches : ℕ) → first ≡ last → 0 < reaches → first ≡ first +ℤ rnd ((last -ℤ first) *ℤ pos place) (pos reaches)
-same_ends first last place reaches e some =
-    let z : last -ℤ first ≡ pos 0 = omega (arith, ints) in
-    let s = no_share (last -ℤ first) place reaches z some in
-    omega (arith, ints, s)
 
 inflow-take_suc : (case : Case) (ends : List End) (i : ℕ) (d : End) → i < length ends → start_inflow case (take (suc i) ends) ≡ start_inflow case (take i ends) +ℤ along (get_or ends i d) (pipe_at case (get_or ends i d).pipe).flow
 inflow-take_suc case [] i d h = absurd (omega arith)

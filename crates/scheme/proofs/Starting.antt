@@ -21,6 +21,7 @@ use Rattle.case_model.specs.Parts.{node_at, no_node, pipe_at, no_pipe, table_at}
 use Rattle.case_model.specs.Places.{is_bad, is_bad_state}
 use Rattle.case_model.specs.Range.{InRange, InStateRange}
 use Rattle.case_model.specs.RangeLaws.{point_of-good, state_of-good}
+use Rattle.junctions.specs.Sums.{most_arrivals}
 use Rattle.scheme.specs.Computable.{IsComputable}
 use Rattle.scheme.specs.Laws.{meaning_of}
 use Rattle.scheme.specs.Starts.{start_head, start_inflow, start_volume, start_growth, start_node, head_between, start_point}
@@ -147,10 +148,10 @@ inflow-in case (e ∷ ends) read =
     let x = cond e.at_last (pipe_at case e.pipe).flow (neg_ℤ (pipe_at case e.pipe).flow) in
     added x (start_inflow case ends) (length ends) (omega (arith, a, f)) r
 
-inflow_few : (case : Case) (ends : List End) → IsRead case → length ends ≤ 8 → unsigned_abs (start_inflow case ends) ≤ 8_000_000_000_000
+inflow_few : (case : Case) (ends : List End) → IsRead case → length ends ≤ most_arrivals → unsigned_abs (start_inflow case ends) ≤ 16_000_000_000_000
 inflow_few case ends read h = omega (arith, inflow-in case ends read)
 
-start_growth-in : (case : Case) (kind : NodeKind) (ends : List End) → IsRead case → length ends ≤ 8 → unsigned_abs (start_growth case kind ends) ≤ 8_000_000_000_000
+start_growth-in : (case : Case) (kind : NodeKind) (ends : List End) → IsRead case → length ends ≤ most_arrivals → unsigned_abs (start_growth case kind ends) ≤ 16_000_000_000_000
 start_growth-in case (Reservoir head) ends read h = omega arith
 start_growth-in case (Junction demand start) ends read h = omega arith
 start_growth-in case (Discharge q0 h0 outlet opening start) ends read h = omega arith
@@ -161,7 +162,7 @@ start_growth-in case (Vessel gas volume) ends read h = inflow_few case ends read
 
 -- ---- the start
 
-state_good : (h v g : ℤ) → IsHead h → IsVolume v → unsigned_abs g ≤ 8_000_000_000_000 → InStateRange h v g
+state_good : (h v g : ℤ) → IsHead h → IsVolume v → unsigned_abs g ≤ 16_000_000_000_000 → InStateRange h v g
 state_good h v g a b c = let l = b.low in let m = b.high in record { head = a; low = l; volume = omega (arith, ints); growth = omega arith }
 
 pub node_starts : (case : Case) (mesh : Mesh) → IsComputable case mesh → (k : ℕ) → k < length mesh.ends → is_bad_state (start_node case mesh k) ≡ false

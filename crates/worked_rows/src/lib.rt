@@ -3,4 +3,10 @@
 #![tactic(auto)]
 
 #[cfg(test)]
+mod hydraulics_rows;
+#[cfg(test)]
+mod mesh_rows;
+#[cfg(test)]
 mod number_rows;
+#[cfg(test)]
+mod report_rows;

@@ -62,8 +62,8 @@ fn regions_of(layout: &Layout) -> u64 {
     count
 }
 
-// By hand: 512 reaches are 2 sections of 256 or 8 of 64; 7 and 2 reaches have no seam; the chain has 3
-// nodes, 19 seams and 1 + 20 sections in 5 windows.
+// By hand: 512 reaches are 2 sections of 256 or 8 of 64; 7 and 2 reaches have no seam; the chain
+// has 3 nodes, 19 seams and 1 + 20 sections in 5 windows.
 #[test]
 fn layouts_by_hand(rt: HostRuntime) -> Result<(), Fail> {
     for (text, wish, window, strands, regions) in [
