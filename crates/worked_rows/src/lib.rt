@@ -5,6 +5,8 @@
 #[cfg(test)]
 mod hydraulics_rows;
 #[cfg(test)]
+mod mesh_rows;
+#[cfg(test)]
 mod number_rows;
 #[cfg(test)]
 mod report_rows;
