@@ -4,3 +4,5 @@
 
 #[cfg(test)]
 mod number_rows;
+#[cfg(test)]
+mod text_rows;
