@@ -13,7 +13,7 @@ use Rattle.case_rules.specs.Tallies.{one_if, nothing, counted, tally_of, IsFew}
 one_more : (b : Bool) (n m : ℕ) → n + one_if b + m ≡ n + (one_if b + m)
 one_more b n m = omega arith
 
-count_more : (p : Option Directive → Bool) (fields : List (List ℕ)) (lines : List (List (List ℕ))) → count_of p (fields ∷ lines) ≡ one_if (p (said fields)) + count_of p lines
+pub count_more : (p : Option Directive → Bool) (fields : List (List ℕ)) (lines : List (List (List ℕ))) → count_of p (fields ∷ lines) ≡ one_if (p (said fields)) + count_of p lines
 unfolding count_of
 count_more p fields lines = sum_by-cons (λ f. one_if (p (said f))) fields lines
 

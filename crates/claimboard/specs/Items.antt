@@ -1,4 +1,5 @@
--- What an item is to the board: its number, whether it is finished, and the fact that it is good for a tag.
+-- What an item is to the board: its number, whether it is finished, and the fact that it is good
+-- for a tag.
 use Rattle.std.specs.Prelude.{◌≡◌, ℕ, ◌<◌, Bool, List, length, slice_index_or}
 
 module _ {T G : Type 0} (number : T → ℕ) (finished : T → Bool) (good : G → T → Type 0) where

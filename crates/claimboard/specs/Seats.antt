@@ -7,4 +7,5 @@ use Rattle.claimboard.specs.Views.{view, fresh_view}
 module _ {T G : Type 0} {g : Ghosts T G} where
   -- seat k has the number k, and has done nothing yet
   abbrev pub AreFresh : G → List (BoardSeat T G g) → Type 0
-  AreFresh tag seats = (k : ℕ) (d : BoardSeat T G g) → k < length seats → view (slice_index_or seats k d).seat ≡ fresh_view tag k
+  AreFresh tag seats = (k : ℕ) (d : BoardSeat T G g) → k < length seats
+      → view (slice_index_or seats k d).seat ≡ fresh_view tag k

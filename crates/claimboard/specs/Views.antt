@@ -39,15 +39,24 @@ module _ {G : Type 0} where
 
   -- after one load or exchange of the word of item i, which found n
   abbrev pub found_view : View G → ℕ → ℕ → Option ℕ → View G
-  found_view v i n item = record { tag = v.tag; number = v.number; dealt = v.dealt; item = item; loads = v.loads + 1; found_item = i; found_word = n; finished = with_found v.finished i n }
+  found_view v i n item = record v {
+    item = item;
+    loads = v.loads + 1;
+    found_item = i;
+    found_word = n;
+    finished = with_found v.finished i n;
+  }
 
   -- nothing changed but what the seat has loaded, and what was found finished is so still
   abbrev pub OnlyLoaded : View G → View G → Type 0
-  OnlyLoaded v w = (w.tag ≡ v.tag) × (w.number ≡ v.number) × (w.dealt ≡ v.dealt) × (w.item ≡ v.item) × (v.loads ≤ w.loads) × ((i : ℕ) → Has i v.finished → Has i w.finished)
+  OnlyLoaded v w = (w.tag ≡ v.tag) × (w.number ≡ v.number) × (w.dealt ≡ v.dealt)
+      × (w.item ≡ v.item) × (v.loads ≤ w.loads) × ((i : ℕ) → Has i v.finished → Has i w.finished)
 
-  -- the word that was found last was loaded since v, is that of an item of the board, and isn't finished
+  -- the word that was found last was loaded since v, is that of an item of the board, and isn't
+  -- finished
   abbrev pub FoundUnfinished : TableId → View G → View G → Type 0
-  FoundUnfinished id v w = (v.loads < w.loads) × (w.found_item < id.slots) × (w.found_word ≢ finished_word)
+  FoundUnfinished id v w = (v.loads < w.loads) × (w.found_item < id.slots)
+      × (w.found_word ≢ finished_word)
 
   -- the word names another seat's number
   abbrev pub IsOthers : View G → ℕ → Type 0
@@ -55,11 +64,29 @@ module _ {G : Type 0} where
 
   -- a seat of the number k that has done nothing yet
   abbrev pub fresh_view : G → ℕ → View G
-  fresh_view tag k = record { tag = tag; number = Some k; dealt = None; item = None; loads = 0; found_item = 0; found_word = 0; finished = [] }
+  fresh_view tag k = record {
+    tag = tag;
+    number = Some k;
+    dealt = None;
+    item = None;
+    loads = 0;
+    found_item = 0;
+    found_word = 0;
+    finished = [];
+  }
 
   -- the seat that deals the numbers, before it has dealt one
   abbrev pub first_view : G → View G
-  first_view tag = record { tag = tag; number = None; dealt = Some 0; item = None; loads = 0; found_item = 0; found_word = 0; finished = [] }
+  first_view tag = record {
+    tag = tag;
+    number = None;
+    dealt = Some 0;
+    item = None;
+    loads = 0;
+    found_item = 0;
+    found_word = 0;
+    finished = [];
+  }
 
 -- what contracts see of a seat
 module _ {T G : Type 0} where
@@ -82,7 +109,8 @@ module _ {T G : Type 0} where
   abbrev pub KnowsAll : TableId → Seat (Option T) (View G) → Type 0
   KnowsAll id s = (s.table_id ≡ id) × ((i : ℕ) → i < id.slots → Has i (view s).finished)
 
--- the slots that a seat has in hand between two calls: that of the item which it holds, with nothing in it
+-- the slots that a seat has in hand between two calls: that of the item which it holds, with
+-- nothing in it
 module _ {T : Type 0} where
   abbrev pub hand_of : Option ℕ → List (ℕ × Option T)
   hand_of None = []

@@ -1,3 +1,4 @@
+//! The board.
 ghost use Rattle.std.specs.Prelude.{◌≡◌, ◌^◌, ◌<◌};
 
 use crate::items::Item;
@@ -14,5 +15,6 @@ mod calls;
 #[derive(Drop)]
 pub struct Board<T: Item> {
     pub table: Table<Option<T>, View<T::Tag>, Snapshot<T::Tag>, Rule<T>, Global>,
-    ghost sized: { (table.shared.table_id.words ≡ table.shared.table_id.slots) × (0 < table.shared.table_id.slots) × (table.shared.table_id.slots < 2 ^ 32) },
+    ghost sized: { (table.shared.table_id.words ≡ table.shared.table_id.slots)
+        × (0 < table.shared.table_id.slots) × (table.shared.table_id.slots < 2 ^ 32) },
 }

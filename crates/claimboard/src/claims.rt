@@ -1,3 +1,4 @@
+//! What a claim answers.
 /// What a claim found.
 #[derive(Drop)]
 pub enum Claim<T> {

@@ -1,3 +1,4 @@
+//! Closing a board, which gives its items back.
 ghost use Rattle.std.specs.Prelude.{◌≡◌, true, length, IfOk};
 ghost use Rattle.claimboard.specs.Items.{AreItems};
 
@@ -12,7 +13,8 @@ impl<T: Item> Board<T> {
     pub fn close(self, alloc: Global, done: Done<T>) -> Result<Vec<T>, AllocError>
         requires { done.seat.table_id ≡ self.table.shared.table_id }
         ensures count { IfOk result (λ v. length v.items ≡ self.table.shared.table_id.slots) }
-        ensures items { IfOk result (λ v. AreItems T.number_of T.is_finished T.is_good self.table.shared.key.value true v.items) }
+        ensures items { IfOk result (λ v. AreItems T.number_of T.is_finished T.is_good
+            self.table.shared.key.value true v.items) }
     {
         let Board { table } = self;
         let Done { seat } = done;

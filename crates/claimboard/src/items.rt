@@ -1,3 +1,4 @@
+//! What an item is to a board.
 ghost use Rattle.std.specs.Prelude.{◌≡◌, ℕ, Bool};
 
 /// An item of a board, which moves from worker to worker as one owned value.

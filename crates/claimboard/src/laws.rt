@@ -1,3 +1,5 @@
+//! What the rule of a board says of all its seats. The function here does nothing: its
+//! contract is a law.
 ghost use Rattle.claimboard.specs.Laws.{OneHolder, NumbersDiffer, FinishedIsHeldByNone};
 
 use crate::items::Item;

@@ -1,8 +1,8 @@
 //! A claim board: items that workers claim, move out, give back and finish, each held by at most
 //! one worker at any moment, without a lock.
 //!
-//! Each item has a state word and a slot of an `atomic_table`. Its rule stands in `specs/Board.antt`,
-//! the kinds of step in `specs/Steps.antt`.
+//! Each item has a state word and a slot of an `atomic_table`. Its rule stands in
+//! `specs/Board.antt`, the kinds of step in `specs/Steps.antt`.
 #![tactic(auto)]
 
 mod board;
@@ -23,6 +23,3 @@ pub use laws::one_holder;
 pub use rule::Rule;
 pub use seats::{BoardSeat, Done};
 pub use views::View;
-
-#[cfg(test)]
-mod tests;

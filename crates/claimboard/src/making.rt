@@ -1,3 +1,4 @@
+//! Making a board and its seats.
 ghost use Rattle.std.specs.Prelude.{◌≡◌, ◌<◌, ◌≤◌, false, length, map, Some, IfOk, All};
 ghost use Rattle.claimboard.specs.Items.{AreItems};
 ghost use Rattle.claimboard.specs.Seats.{AreFresh};
@@ -28,7 +29,8 @@ impl<T: Item> Board<T> {
         ensures items { IfOk result (λ t. t.0.table.shared.table_id.slots ≡ length items.items) }
         ensures tag { IfOk result (λ t. t.0.table.shared.key.value ≡ tag) }
         ensures count { IfOk result (λ t. length t.1.items ≡ seats) }
-        ensures seats { IfOk result (λ t. All (λ s. IsReady t.0.table.shared.table_id tag s.seat) t.1.items) }
+        ensures seats { IfOk result (λ t.
+            All (λ s. IsReady t.0.table.shared.table_id tag s.seat) t.1.items) }
         ensures fresh { IfOk result (λ t. AreFresh tag t.1.items) }
     {
         let words = vec![in alloc; 0u64; items.len()]?;
@@ -62,7 +64,8 @@ fn deal_seats<T: Item>(
     requires words { 0 < top.now.table_id.words }
     requires deals { (view dealer.old).dealt ≡ Some 0 }
     ensures count { IfOk result (λ v. length v.items ≡ seats) }
-    ensures seats { IfOk result (λ v. All (λ s. IsReady top.now.table_id top.now.key.value s.seat) v.items) }
+    ensures seats { IfOk result (λ v.
+        All (λ s. IsReady top.now.table_id top.now.key.value s.seat) v.items) }
     ensures fresh { IfOk result (λ v. AreFresh top.now.key.value v.items) }
 {
     let mut dealt = Vec::with_capacity(alloc, seats as usize)?;

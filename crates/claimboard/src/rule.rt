@@ -1,3 +1,4 @@
+//! The rule of a board's table.
 use crate::items::Item;
 use crate::views::View;
 use atomic_table::{Seat, Shared, TableRule};

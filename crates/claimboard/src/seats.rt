@@ -1,3 +1,4 @@
+//! The seats at a board.
 ghost use Rattle.std.specs.Prelude.{◌≡◌, ℕ, ◌^◌, ◌<◌, Some};
 ghost use Rattle.claimboard.specs.Views.{hand_of, KnowsAll};
 

@@ -19,7 +19,8 @@ pub(crate) const HELD: u64 = 2;
 /// A load of a state word, which gives the word.
 pub(crate) fn peek<T: Item>(top: &Top<T>, seat: &mut Place<T>, number: usize) -> u64
     requires seat { seat.old.table_id ≡ top.now.table_id }
-    requires on_board { (number < top.now.table_id.slots) × (top.now.table_id.words ≡ top.now.table_id.slots) }
+    requires on_board { (number < top.now.table_id.slots)
+        × (top.now.table_id.words ≡ top.now.table_id.slots) }
     ensures same { (seat.new.table_id ≡ seat.old.table_id) × (seat.new.id ≡ seat.old.id) }
     ensures peeked { peeked number seat.old.me result seat.new.me }
 {
@@ -30,11 +31,13 @@ pub(crate) fn peek<T: Item>(top: &Top<T>, seat: &mut Place<T>, number: usize) ->
 /// gives the word that was found.
 pub(crate) fn try_take<T: Item>(top: &Top<T>, seat: &mut Place<T>, number: usize, by: u64) -> u64
     requires seat { seat.old.table_id ≡ top.now.table_id }
-    requires on_board { (number < top.now.table_id.slots) × (top.now.table_id.words ≡ top.now.table_id.slots) }
+    requires on_board { (number < top.now.table_id.slots)
+        × (top.now.table_id.words ≡ top.now.table_id.slots) }
     requires empty_handed { (seat.old.me.0.item ≡ None) × (seat.old.me.1 ≡ []) }
     requires by { (seat.old.me.0.number ≡ Some by) × (by < 2 ^ 32) }
     ensures same { (seat.new.table_id ≡ seat.old.table_id) × (seat.new.id ≡ seat.old.id) }
-    ensures claimed { claimed T.number_of T.is_finished T.is_good number seat.old.me result seat.new.me }
+    ensures claimed { claimed T.number_of T.is_finished T.is_good number
+        seat.old.me result seat.new.me }
 {
     top.compare_exchange::<Claimed<T>>(seat, number, FREE, by + HELD)
 }
@@ -62,9 +65,12 @@ pub(crate) fn put_in<T: Item>(top: &Top<T>, seat: &mut Place<T>, number: usize, 
 /// A store of free. The item is in the slot in hand, and isn't finished.
 pub(crate) fn free<T: Item>(top: &Top<T>, seat: &mut Place<T>, number: usize)
     requires seat { seat.old.table_id ≡ top.now.table_id }
-    requires on_board { (number < top.now.table_id.slots) × (top.now.table_id.words ≡ top.now.table_id.slots) }
-    requires held { (seat.old.me.0.item ≡ Some number) × ((n : ℕ) × (seat.old.me.0.number ≡ Some n)) }
-    requires in_slot { (x : T) × (seat.old.me.1 ≡ (number, Some x) ∷ []) × IsItem T.number_of T.is_finished T.is_good top.now.key.value number false x }
+    requires on_board { (number < top.now.table_id.slots)
+        × (top.now.table_id.words ≡ top.now.table_id.slots) }
+    requires held { (seat.old.me.0.item ≡ Some number)
+        × ((n : ℕ) × (seat.old.me.0.number ≡ Some n)) }
+    requires in_slot { (x : T) × (seat.old.me.1 ≡ (number, Some x) ∷ [])
+        × IsItem T.number_of T.is_finished T.is_good top.now.key.value number false x }
     ensures same { (seat.new.table_id ≡ seat.old.table_id) × (seat.new.id ≡ seat.old.id) }
     ensures stored { stored seat.old.me seat.new.me }
 {
@@ -74,9 +80,12 @@ pub(crate) fn free<T: Item>(top: &Top<T>, seat: &mut Place<T>, number: usize)
 /// A store of finished. The item is in the slot in hand, and is finished.
 pub(crate) fn mark_finished<T: Item>(top: &Top<T>, seat: &mut Place<T>, number: usize)
     requires seat { seat.old.table_id ≡ top.now.table_id }
-    requires on_board { (number < top.now.table_id.slots) × (top.now.table_id.words ≡ top.now.table_id.slots) }
-    requires held { (seat.old.me.0.item ≡ Some number) × ((n : ℕ) × (seat.old.me.0.number ≡ Some n)) }
-    requires in_slot { (x : T) × (seat.old.me.1 ≡ (number, Some x) ∷ []) × IsItem T.number_of T.is_finished T.is_good top.now.key.value number true x }
+    requires on_board { (number < top.now.table_id.slots)
+        × (top.now.table_id.words ≡ top.now.table_id.slots) }
+    requires held { (seat.old.me.0.item ≡ Some number)
+        × ((n : ℕ) × (seat.old.me.0.number ≡ Some n)) }
+    requires in_slot { (x : T) × (seat.old.me.1 ≡ (number, Some x) ∷ [])
+        × IsItem T.number_of T.is_finished T.is_good top.now.key.value number true x }
     ensures same { (seat.new.table_id ≡ seat.old.table_id) × (seat.new.id ≡ seat.old.id) }
     ensures stored { stored seat.old.me seat.new.me }
 {

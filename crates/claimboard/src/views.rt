@@ -1,3 +1,4 @@
+//! What the seats of a board know.
 use std::collections::LinkedList;
 
 /// What the thread that has a seat knows. It is for clauses alone: no value of it is made.

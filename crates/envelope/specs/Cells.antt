@@ -29,7 +29,8 @@ pub record IsRising (spans : List (ℕ × ℕ)) : Type 0 where
 -- the cell of each span's first place, and the count of all cells: no two spans share a cell
 pub record IsLaidOut (spans : List (ℕ × ℕ)) (bases : List ℕ) : Type 0 where
   pub each : length bases ≡ length spans + 1
-  pub apart : (i j : ℕ) → i < j → j ≤ length spans → slice_index bases i + (slice_index_or spans i no_span).1 ≤ slice_index bases j
+  pub apart : (i j : ℕ) → i < j → j ≤ length spans
+      → slice_index bases i + (slice_index_or spans i no_span).1 ≤ slice_index bases j
   pub few : slice_index bases (length spans) ≤ 400_000
 
 -- the span of a place: the first that ends past it
@@ -54,4 +55,5 @@ AreInOneSpan spans first count = (i : ℕ) × AreInSpan spans first count i
 
 -- the cell of a place that lies in the spans
 unfoldable pub cell_of : List (ℕ × ℕ) → List ℕ → ℕ → ℕ
-cell_of spans bases place = slice_index bases (span_of spans place) + (place - first_of_span spans (span_of spans place))
+cell_of spans bases place =
+    slice_index bases (span_of spans place) + (place - first_of_span spans (span_of spans place))

@@ -23,14 +23,23 @@ pub record IsEnvelopeOf (f : ℕ → Option Sample) (last : ℕ) (e : Extreme) :
   pub least_head : IsSmallest (λ s. head_of (f s)) last e.min e.min_step
   pub greatest_volume : IsGreatest (λ s. volume_of (f s)) last e.volume e.volume_step
 
--- what a cell keeps: the envelope, or where its greatest head is below its least that nothing is taken
+-- what a cell keeps: the envelope, or where its greatest head is below its least that nothing is
+-- taken
 pub record HasExtreme (f : ℕ → Option Sample) (last : ℕ) (e : Extreme) : Type 0 where
   pub unmet : e.max <ℤ e.min → (s : ℕ) → s ≤ last → f s ≡ None
   pub filled : e.min ≤ℤ e.max → IsEnvelopeOf f last e
 
 -- the cell of a place of which nothing is taken
 abbrev pub unmet : Extreme
-unmet = record { max = negsuc 0; max_step = 0; min = pos 0; min_step = 0; volume = pos 0; volume_step = 0 }
+unmet =
+    record {
+      max = negsuc 0;
+      max_step = 0;
+      min = pos 0;
+      min_step = 0;
+      volume = pos 0;
+      volume_step = 0;
+    }
 
 -- the greater of a value with its step and of one at a later step; of equal ones the earlier
 abbrev pub greater_or : Option (ℤ × ℕ) → Option ℤ → ℕ → Option (ℤ × ℕ)

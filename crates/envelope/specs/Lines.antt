@@ -10,12 +10,16 @@ told None = None
 
 -- a line of samples has what is taken at the steps 0, every, 2*every .. up to the last
 abbrev pub HasSamples : (ℕ → Option Sample) → ℕ → ℕ → List (Option Kept) → Type 0
-HasSamples f last every line = (j : ℕ) → j < length line → j * every ≤ last → told (slice_index_or line j None) ≡ f (j * every)
+HasSamples f last every line =
+    (j : ℕ) → j < length line → j * every ≤ last → told (slice_index_or line j None) ≡ f (j * every)
 
 -- which line of samples belongs to a cell: that of a probe at its place; each probe's place has one
-pub record IsMarked (spans : List (ℕ × ℕ)) (bases : List ℕ) (probes : List ℕ) (count : ℕ) (marks : List (Option ℕ)) : Type 0 where
-  pub own : (c line : ℕ) → slice_index_or marks c None ≡ Some line → (line < count) × (cell_of spans bases (slice_index probes line) ≡ c)
-  pub each : (p : ℕ) → p < count → slice_index_or marks (cell_of spans bases (slice_index probes p)) None ≢ None
+pub record IsMarked (spans : List (ℕ × ℕ)) (bases : List ℕ) (probes : List ℕ) (count : ℕ)
+    (marks : List (Option ℕ)) : Type 0 where
+  pub own : (c line : ℕ) → slice_index_or marks c None ≡ Some line
+      → (line < count) × (cell_of spans bases (slice_index probes line) ≡ c)
+  pub each : (p : ℕ) → p < count
+      → slice_index_or marks (cell_of spans bases (slice_index probes p)) None ≢ None
 
 -- every probe lies in a span
 abbrev pub AreWithin : List (ℕ × ℕ) → List ℕ → Type 0

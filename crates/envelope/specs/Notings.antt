@@ -39,7 +39,8 @@ noted map step place noting = union map (only step place noting)
 -- the points of a line, noted at one step at places that follow one another
 unfoldable pub line_noted : ℕ → ℕ → List Point → Noted
 line_noted step first points s k =
-    if (s == step) && nat_le first k && nat_lt k (first + length points) then Some (OfPoint (slice_index_or points (k - first) Bad)) else None
+    if (s == step) && nat_le first k && nat_lt k (first + length points)
+    then Some (OfPoint (slice_index_or points (k - first) Bad)) else None
 
 -- every place of a map lies in these spans
 abbrev pub IsInside : List (ℕ × ℕ) → Noted → Type 0
@@ -63,4 +64,5 @@ column map place step = taken (map step place)
 
 -- the sample of a place over a map: at the steps 0, every, 2*every .. up to the last
 unfoldable pub sample_over : Noted → ℕ → ℕ → ℕ → ℕ → Option Sample
-sample_over map every last place step = if (step % every == 0) && nat_le step last then taken (map step place) else None
+sample_over map every last place step =
+    if (step % every == 0) && nat_le step last then taken (map step place) else None

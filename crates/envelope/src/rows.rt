@@ -66,7 +66,8 @@ pub fn numbers_tell_places()
 /// 0 to the fold's last and at the places of its spans.
 pub fn stands_for_equal_maps()
     ensures { (fold : Fold) (map more : Noted) →
-        ((s k : ℕ) → s ≤ steps_of fold → is_within (spans_of fold) k ≡ true → map s k ≡ more s k) → Stands fold map → Stands fold more }
+        ((s k : ℕ) → s ≤ steps_of fold → is_within (spans_of fold) k ≡ true → map s k ≡ more s k) →
+        Stands fold map → Stands fold more }
 {}
 
 /// The law of folds over rows: what a fold keeps that was told every row of a law is the first
@@ -74,7 +75,8 @@ pub fn stands_for_equal_maps()
 /// place.
 pub fn folds_tell_rows()
     ensures fault { (law : Meaning) (last : ℕ) (fault : Option (ℕ × ℕ)) → IsNumbered law.mesh →
-        HasFault ((0, law.mesh.places) ∷ []) last (rows_noted law) fault → fault ≡ first_fault law last }
+        HasFault ((0, law.mesh.places) ∷ []) last (rows_noted law) fault →
+        fault ≡ first_fault law last }
     ensures extreme { (law : Meaning) (fold : Fold) (at : ProbeAt) → HasRows law fold →
         first_fault law (steps_of fold) ≡ None → IsOn law.mesh at →
         extreme_kept fold (number_of law.mesh at) ≡ extreme_at law (steps_of fold) at }

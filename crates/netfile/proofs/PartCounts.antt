@@ -14,13 +14,10 @@ use Rattle.case_lines.specs.declared.words.Directive.TheVariants.{OfSingle, OfTa
 use Rattle.case_rules.specs.Said.{said, is_single_of}
 use Rattle.case_rules.specs.Counts.{is_table, is_node, is_pipe, is_sampled, count_of, is_incomplete, is_too_large, count_rules}
 use Rattle.netfile.specs.Built.{table_by, table_said, tables_from, tables_of, node_by, node_said, nodes_from, nodes_of, pipe_by, pipe_said, pipes_from, pipes_of, probe_by, probe_said, probes_from, probes_of}
+use Rattle.case_rules.proofs.Tallied.{count_more}
 
 one_if : Bool → ℕ
 one_if b = cond b 1 0
-
-count_more : (p : Option Directive → Bool) (fields : List (List ℕ)) (lines : List (List (List ℕ))) → count_of p (fields ∷ lines) ≡ one_if (p (said fields)) + count_of p lines
-unfolding count_of one_if
-count_more p fields lines = sum_by-cons (λ f. cond (p (said f)) 1 0) fields lines
 
 count_none : (p : Option Directive → Bool) → 0 ≡ count_of p []
 unfolding count_of

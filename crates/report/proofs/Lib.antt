@@ -1,4 +1,3 @@
-pub mod Widths
 pub mod Runs
 pub mod Pieces
 pub mod Numbers
@@ -8,3 +7,4 @@ pub mod Ordered
 pub mod PeakLaws
 pub mod Agreeing
 pub mod Sections
+pub mod Meshed

@@ -1,15 +1,11 @@
 -- Place numbers.
-use Rattle.std.proofs.Common.{◌≡◌, ℕ, ◌+◌, ◌*◌, ◌/◌, ◌<◌, ◌≤◌, ◌⊎◌, inl, inr, length, take, sum_by, arith, ap}
-use Rattle.case_model.specs.Mesh.{IsNumbered, reaches, places_before, no_pipe}
+use Rattle.std.proofs.Common.{◌≡◌, ℕ, ◌+◌, ◌*◌, ◌/◌, ◌<◌, ◌≤◌, ◌⊎◌, inl, inr, arith}
 use Rattle.std.proofs.Math.Nat.{div-mul-le_self}
 use Rattle.std.proofs.lemmas.Nat.{mul-le}
-use Rattle.std.proofs.lemmas.List.{take_all}
-use Rattle.std.proofs.lemmas.List.Sums.{sum_by_more_le}
 use Rattle.case_model.specs.declared.cases.ProbeAt.{ProbeAt}
 use Rattle.case_model.specs.declared.cases.ProbeAt.TheVariants.{OnPipe, OnNode}
 use Rattle.case_model.specs.declared.meshes.Mesh.{Mesh}
-use Rattle.case_model.specs.declared.meshes.PipeMesh.{PipeMesh}
-use Rattle.case_model.specs.PlaceNumbers.{IsOn, number_of}
+use Rattle.case_model.specs.PlaceNumbers.{IsOn}
 use Rattle.report.specs.Places.{IsOnPipe}
 
 -- a place of a pipe is one of the mesh

@@ -1,4 +1,5 @@
--- Lines of fields with one blank between them and a line end after each, and the fields of numbers and labels.
+-- Lines of fields with one blank between them and a line end after each, and the fields of numbers
+-- and labels.
 use Rattle.std.specs.Prelude.{ℕ, ℤ, pos, List, [], ◌∷◌, ◌++◌}
 use Rattle.std.specs.List.{flat_map, join_with_byte}
 use Rattle.fixed_num.specs.Written.{written}
@@ -31,7 +32,8 @@ flow_text q = written 9 q
 abbrev pub volume_text : ℤ → List ℕ
 volume_text v = written 9 v
 
--- how a place is named: a node by its name, a place of a pipe by the pipe's name and its number there
+-- how a place is named: a node by its name, a place of a pipe by the pipe's name and its number
+-- there
 abbrev pub node_label : Case → ℕ → List (List ℕ)
 node_label case k = (node_at case k).name ∷ []
 

@@ -1,4 +1,5 @@
--- The text of a mesh: how each pipe is divided into reaches, and how space and time are cut into regions.
+-- The text of a mesh: how each pipe is divided into reaches, and how space and time are cut into
+-- regions.
 use Rattle.std.specs.Prelude.{◌≡◌, ℕ, ◌+◌, ◌*◌, ◌<◌, ◌≤◌, not, ℤ, pos, unsigned_abs, List, [], ◌∷◌, ◌++◌, length, slice_index_or, codes, All}
 use Rattle.std.specs.List.{filter, flat_map, range_with_len}
 use Rattle.fixed_num.specs.Written.{written}
@@ -61,17 +62,20 @@ pub record IsCounted (layout : Layout) : Type 0 where
 -- the line of the window in steps, the strands, and all their regions
 unfoldable pub window_line : Layout → List ℕ
 window_line layout =
-    line_of (codes "window" ∷ count_text layout.window ∷ codes "strands" ∷ count_text (length layout.shapes) ∷ codes "regions" ∷ count_text (regions_of layout) ∷ [])
+    line_of (codes "window" ∷ count_text layout.window ∷ codes "strands"
+    ∷ count_text (length layout.shapes) ∷ codes "regions" ∷ count_text (regions_of layout) ∷ [])
 
 unfoldable pub mesh_text : Case → Mesh → Layout → List ℕ
 mesh_text case mesh layout = division_lines case mesh ++ window_line layout
 
--- what the text of a mesh is written from: a time step, lengths, reaches, frictions and counts within their limits
+-- what the text of a mesh is written from: a time step, lengths, reaches, frictions and counts
+-- within their limits
 pub record IsMeshed (case : Case) (mesh : Mesh) (layout : Layout) : Type 0 where
   pub same_pipes : length mesh.pipes ≡ length case.pipes
   pub few_pipes : length case.pipes ≤ 4_096
   pub dt : IsWithin (pos 1) (pos 1_000_000) case.dt
   pub pipes : All IsPipe case.pipes
   pub some_reaches : (p : ℕ) → p < length mesh.pipes → 2 ≤ reaches mesh p
-  pub frictions : (p : ℕ) → p < length mesh.pipes → unsigned_abs (division_of mesh p).r ≤ 100_000_000_000_000_000_000
+  pub frictions : (p : ℕ) → p < length mesh.pipes
+      → unsigned_abs (division_of mesh p).r ≤ 100_000_000_000_000_000_000
   pub counted : IsCounted layout

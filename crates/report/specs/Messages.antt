@@ -8,8 +8,8 @@ use Rattle.report.specs.Lines.{line_of, count_text, label}
 -- the line for words that aren't those of a command
 unfoldable pub usage_text : List ℕ
 usage_text =
-    line_of (codes "usage:" ∷ codes "surge" ∷ codes "check|mesh|rounds|run|drill|upgrade" ∷ codes "[number]"
-    ∷ codes "[--workers n]" ∷ codes "[--slots n]" ∷ codes "[--window n]" ∷ [])
+    line_of (codes "usage:" ∷ codes "surge" ∷ codes "check|mesh|rounds|run|drill|upgrade"
+    ∷ codes "[number]" ∷ codes "[--workers n]" ∷ codes "[--slots n]" ∷ codes "[--window n]" ∷ [])
 
 -- the line for a case text that is accepted
 unfoldable pub accepted_text : List ℕ
@@ -48,7 +48,8 @@ field_of None = []
 
 unfoldable pub refusal_text : ℕ → ℕ → List ℕ
 refusal_text number line =
-    line_of (codes "refused" ∷ count_text number ∷ codes "line" ∷ count_text line ∷ field_of (reason_of number))
+    line_of (codes "refused" ∷ count_text number ∷ codes "line" ∷ count_text line
+    ∷ field_of (reason_of number))
 
 -- the line that names a place, by its number, whose numbers left their range at a step
 unfoldable pub range_text : Case → Mesh → ℕ → ℕ → List ℕ

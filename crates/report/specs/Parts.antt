@@ -25,13 +25,16 @@ pipe_line part case extremes p i = place_line part case extremes (OnPipe p i)
 
 -- the lines of all nodes, of the places of one pipe, and of those of all pipes
 abbrev pub node_lines : Part → Case → Mesh → (ProbeAt → Extreme) → List ℕ
-node_lines part case mesh extremes = flat_map (node_line part case extremes) (range_with_len 0 (length mesh.ends))
+node_lines part case mesh extremes =
+    flat_map (node_line part case extremes) (range_with_len 0 (length mesh.ends))
 
 unfoldable pub lines_of_pipe : Part → Case → Mesh → (ProbeAt → Extreme) → ℕ → List ℕ
-lines_of_pipe part case mesh extremes p = flat_map (pipe_line part case extremes p) (range_with_len 0 (reaches mesh p + 1))
+lines_of_pipe part case mesh extremes p =
+    flat_map (pipe_line part case extremes p) (range_with_len 0 (reaches mesh p + 1))
 
 abbrev pub pipe_lines : Part → Case → Mesh → (ProbeAt → Extreme) → List ℕ
-pipe_lines part case mesh extremes = flat_map (lines_of_pipe part case mesh extremes) (range_with_len 0 (length mesh.pipes))
+pipe_lines part case mesh extremes =
+    flat_map (lines_of_pipe part case mesh extremes) (range_with_len 0 (length mesh.pipes))
 
 -- the lines of all places, in order of number
 unfoldable pub part_text : Part → Case → Mesh → (ProbeAt → Extreme) → List ℕ

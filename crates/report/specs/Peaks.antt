@@ -16,15 +16,19 @@ unfoldable pub is_below : Extreme → Extreme → Bool
 is_below a b = int_lt a.min b.min || (not (int_lt b.min a.min) && nat_lt a.min_step b.min_step)
 
 -- no place of these passes this one
-abbrev pub is_unpassed : (Extreme → Extreme → Bool) → (ProbeAt → Extreme) → List ProbeAt → ProbeAt → Bool
-is_unpassed passes extremes places at = not (list_any (λ other. passes (extremes other) (extremes at)) places)
+abbrev pub is_unpassed : (Extreme → Extreme → Bool) → (ProbeAt → Extreme) → List ProbeAt → ProbeAt
+    → Bool
+is_unpassed passes extremes places at =
+    not (list_any (λ other. passes (extremes other) (extremes at)) places)
 
 -- the first place of these that no other passes
-abbrev pub first_unpassed : (Extreme → Extreme → Bool) → (ProbeAt → Extreme) → List ProbeAt → ProbeAt
-first_unpassed passes extremes places = slice_index_or (filter (is_unpassed passes extremes places) places) 0 (OnPipe 0 0)
+abbrev pub first_unpassed : (Extreme → Extreme → Bool) → (ProbeAt → Extreme) → List ProbeAt
+    → ProbeAt
+first_unpassed passes extremes places =
+    slice_index_or (filter (is_unpassed passes extremes places) places) 0 (OnPipe 0 0)
 
--- the place of a pipe with the greatest head, and that with the least; of equal heads that of the least
--- step, and of equal steps the first place
+-- the place of a pipe with the greatest head, and that with the least; of equal heads that of the
+-- least step, and of equal steps the first place
 unfoldable pub highest : (ProbeAt → Extreme) → Mesh → ProbeAt
 highest extremes mesh = first_unpassed is_above extremes (pipe_places mesh)
 
@@ -36,14 +40,16 @@ lowest extremes mesh = first_unpassed is_below extremes (pipe_places mesh)
 abbrev pub StandsAbove : (ProbeAt → Extreme) → ProbeAt → ProbeAt → Type 0
 StandsAbove extremes at other =
     ((extremes other).max <ℤ (extremes at).max)
-    ⊎ (((extremes other).max ≡ (extremes at).max) × (((extremes at).max_step < (extremes other).max_step)
+    ⊎ (((extremes other).max ≡ (extremes at).max)
+    × (((extremes at).max_step < (extremes other).max_step)
     ⊎ (((extremes at).max_step ≡ (extremes other).max_step) × IsBefore at other)))
 
 -- the same of the least heads
 abbrev pub StandsBelow : (ProbeAt → Extreme) → ProbeAt → ProbeAt → Type 0
 StandsBelow extremes at other =
     ((extremes at).min <ℤ (extremes other).min)
-    ⊎ (((extremes at).min ≡ (extremes other).min) × (((extremes at).min_step < (extremes other).min_step)
+    ⊎ (((extremes at).min ≡ (extremes other).min)
+    × (((extremes at).min_step < (extremes other).min_step)
     ⊎ (((extremes at).min_step ≡ (extremes other).min_step) × IsBefore at other)))
 
 -- the place stands above every other place of a pipe

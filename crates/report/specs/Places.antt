@@ -1,4 +1,5 @@
--- The places of a mesh in order of number: the nodes in file order, then places 0 to N of each pipe in file order.
+-- The places of a mesh in order of number: the nodes in file order, then places 0 to N of each pipe
+-- in file order.
 use Rattle.std.specs.Prelude.{◌≡◌, ℕ, ◌+◌, ◌<◌, ◌≤◌, ◌⊎◌, List, ◌++◌, map, length}
 use Rattle.std.specs.List.{flat_map, range_with_len}
 use Rattle.case_model.specs.Mesh.{reaches}
@@ -24,7 +25,8 @@ abbrev pub IsOnPipe : Mesh → ProbeAt → Type 0
 IsOnPipe mesh (OnPipe pipe place) = (pipe < length mesh.pipes) × (place ≤ reaches mesh pipe)
 IsOnPipe mesh (OnNode node) = ⊥
 
--- of two places of pipes the first comes before the other: its pipe does, or it does on the same pipe
+-- of two places of pipes the first comes before the other: its pipe does, or it does on the same
+-- pipe
 abbrev pub IsBefore : ProbeAt → ProbeAt → Type 0
 IsBefore (OnPipe p i) (OnPipe q j) = (p < q) ⊎ ((p ≡ q) × (i < j))
 IsBefore (OnPipe p i) (OnNode k) = ⊥

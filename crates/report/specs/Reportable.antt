@@ -1,4 +1,5 @@
--- What a report is written from: a case within its limits, its mesh, and a fold over all places of the mesh.
+-- What a report is written from: a case within its limits, its mesh, and a fold over all places of
+-- the mesh.
 use Rattle.std.specs.Prelude.{◌≡◌, ℕ, ◌<◌, ◌≤◌, true, length, All}
 use Rattle.case_model.specs.Mesh.{IsNumbered}
 use Rattle.case_model.specs.PlaceNumbers.{IsOn, number_of}

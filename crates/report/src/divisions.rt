@@ -31,7 +31,10 @@ fn line_of_division(name: &[u8], division: &PipeMesh, speed: i128) -> Line
     requires name { length name.now ≤ 32 }
     requires speed { unsigned_abs speed < 100_000_000_000_000_000_000 }
     requires friction { unsigned_abs division.now.r ≤ 100_000_000_000_000_000_000 }
-    ensures { result ≡ line_of (codes "pipe" ∷ name.now ∷ count_text division.now.reaches ∷ codes "speed" ∷ speed_text speed ∷ codes "b" ∷ impedance_text division.now.b ∷ codes "r" ∷ friction_text division.now.r ∷ []) }
+    ensures { result
+        ≡ line_of (codes "pipe" ∷ name.now ∷ count_text division.now.reaches ∷ codes "speed"
+        ∷ speed_text speed ∷ codes "b" ∷ impedance_text division.now.b ∷ codes "r"
+        ∷ friction_text division.now.r ∷ []) }
 {
     let mut line = Line::new();
     line.push(b"pipe");

@@ -37,7 +37,8 @@ fn sample_word(at: ProbeAt) -> &'static [u8]
 }
 
 fn sample_or_zeros(sample: Option<Sample>) -> Sample
-    ensures { record { h = result.h; qu = result.qu; qd = result.qd; v = result.v } ≡ or_zeros (told sample) }
+    ensures { record { h = result.h; qu = result.qu; qd = result.qd; v = result.v }
+        ≡ or_zeros (told sample) }
 {
     match sample {
         Some(sample) => sample,
@@ -53,7 +54,10 @@ fn sample_or_zeros(sample: Option<Sample>) -> Sample
 // Adds the numbers of a sample.
 fn add_sample(line: &mut Line, at: ProbeAt, sample: &Sample)
     requires { length line.old ≤ 164 }
-    ensures text { line.new ≡ line.old ++ spaced (sample_numbers at (record { h = sample.now.h; qu = sample.now.qu; qd = sample.now.qd; v = sample.now.v })) }
+    ensures text { line.new ≡ line.old
+        ++ spaced
+        (sample_numbers at
+        (record { h = sample.now.h; qu = sample.now.qu; qd = sample.now.qd; v = sample.now.v })) }
     ensures few { length line.new ≤ length line.old + 92 }
 {
     match at {
@@ -65,7 +69,9 @@ fn add_sample(line: &mut Line, at: ProbeAt, sample: &Sample)
 // Adds the numbers of a place of a pipe: head, flows and volume.
 fn add_point(line: &mut Line, sample: &Sample)
     requires { length line.old ≤ 164 }
-    ensures text { line.new ≡ line.old ++ spaced (head_text sample.now.h ∷ flow_text sample.now.qu ∷ flow_text sample.now.qd ∷ volume_text sample.now.v ∷ []) }
+    ensures text { line.new ≡ line.old
+        ++ spaced (head_text sample.now.h ∷ flow_text sample.now.qu ∷ flow_text sample.now.qd
+        ∷ volume_text sample.now.v ∷ []) }
     ensures few { length line.new ≤ length line.old + 92 }
 {
     add_head(line, sample.h);
@@ -76,7 +82,9 @@ fn add_point(line: &mut Line, sample: &Sample)
 // Adds the numbers of a node: head, growth and volume.
 fn add_state(line: &mut Line, sample: &Sample)
     requires { length line.old ≤ 164 }
-    ensures text { line.new ≡ line.old ++ spaced (head_text sample.now.h ∷ flow_text sample.now.qd ∷ volume_text sample.now.v ∷ []) }
+    ensures text { line.new ≡ line.old
+        ++ spaced (head_text sample.now.h ∷ flow_text sample.now.qd ∷ volume_text sample.now.v
+        ∷ []) }
     ensures few { length line.new ≤ length line.old + 92 }
 {
     add_head(line, sample.h);
@@ -86,7 +94,8 @@ fn add_state(line: &mut Line, sample: &Sample)
 // Adds the flow on the downstream side, or the growth, and the volume.
 fn add_downstream(line: &mut Line, sample: &Sample)
     requires { length line.old ≤ 210 }
-    ensures text { line.new ≡ line.old ++ spaced (flow_text sample.now.qd ∷ volume_text sample.now.v ∷ []) }
+    ensures text { line.new ≡ line.old
+        ++ spaced (flow_text sample.now.qd ∷ volume_text sample.now.v ∷ []) }
     ensures few { length line.new ≤ length line.old + 46 }
 {
     add_flow(line, sample.qd);

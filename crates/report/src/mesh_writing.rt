@@ -3,30 +3,47 @@ ghost use Rattle.std.specs.Prelude.{◌≡◌, ◌≤◌, ◌<◌, length, OnOk,
 ghost use Rattle.surge_io.specs.Bytes.{Appends, AppendsFront};
 ghost use Rattle.surge_io.specs.Faults.{Rose};
 ghost use Rattle.surge_io.specs.Pages.{Adds, AddsFront};
+ghost use Rattle.regions.specs.LaidOut.{IsCutFor};
 ghost use Rattle.report.specs.MeshText.{IsMeshed, division_line, division_lines, mesh_text, window_line};
 
 use crate::divisions::{division_line, window_line};
-use case_model::{Case, Mesh};
-use regions::Layout;
+use case_model::{Case, Mesh, accepted_cases_are_kept};
+use regions::{Layout, layouts_are_sound};
 use surge_io::{Failed, Page, Sink};
 
-/// Writes how each pipe of a case is divided into reaches, and how the mesh is cut into strands and regions.
-/// `Failed` comes only where the sink's count of faults rose in this call, and then a first part was written.
+/// Writes how each pipe of an accepted case is divided into reaches, and how its mesh is cut into
+/// strands and regions. `Failed` comes only where the sink's count of faults rose in this call, and
+/// then a first part was written.
 pub fn write_mesh<K: Sink>(
     case: &Case,
     mesh: &Mesh,
     layout: &Layout,
     out: &mut K,
 ) -> Result<(), Failed>
-    requires { IsMeshed case.now mesh.now layout.now }
-    ensures all { OnOk result (Appends (K.held out.old) (K.held out.new) (mesh_text case.now mesh.now layout.now)) }
-    ensures front { OnErr result (AppendsFront (K.held out.old) (K.held out.new) (mesh_text case.now mesh.now layout.now)) }
+    requires { IsCutFor case.now layout.now mesh.now }
+    ensures all { OnOk result
+        (Appends (K.held out.old) (K.held out.new) (mesh_text case.now mesh.now layout.now)) }
+    ensures front { OnErr result
+        (AppendsFront (K.held out.old) (K.held out.new) (mesh_text case.now mesh.now layout.now)) }
     ensures cause { OnErr result (Rose (K.faults out.old) (K.faults out.new)) }
     ensures later { K.faults out.old ≤ K.faults out.new }
 {
+    limits(case, mesh, layout);
     let mut page = Page::new();
     add_mesh(case, mesh, layout, &mut page, out)?;
     page.flush(out)
+}
+
+// An accepted case, its mesh and a cut of that are within the limits of their text.
+fn limits(case: &Case, mesh: &Mesh, layout: &Layout)
+    requires { IsCutFor case.now layout.now mesh.now }
+    ensures { IsMeshed case.now mesh.now layout.now }
+{
+    let _ = case;
+    let _ = mesh;
+    let _ = layout;
+    accepted_cases_are_kept();
+    layouts_are_sound();
 }
 
 // Adds the whole text.
@@ -38,8 +55,12 @@ fn add_mesh<K: Sink>(
     out: &mut K,
 ) -> Result<(), Failed>
     requires { IsMeshed case.now mesh.now layout.now }
-    ensures all { OnOk result (Adds (K.held out.old) page.old (K.held out.new) page.new (mesh_text case.now mesh.now layout.now)) }
-    ensures front { OnErr result (AddsFront (K.held out.old) page.old (K.held out.new) (mesh_text case.now mesh.now layout.now)) }
+    ensures all { OnOk result
+        (Adds (K.held out.old) page.old (K.held out.new) page.new
+        (mesh_text case.now mesh.now layout.now)) }
+    ensures front { OnErr result
+        (AddsFront (K.held out.old) page.old (K.held out.new)
+        (mesh_text case.now mesh.now layout.now)) }
     ensures cause { OnErr result (Rose (K.faults out.old) (K.faults out.new)) }
     ensures later { K.faults out.old ≤ K.faults out.new }
 {
@@ -57,8 +78,11 @@ fn add_divisions<K: Sink>(
     out: &mut K,
 ) -> Result<(), Failed>
     requires { IsMeshed case.now mesh.now layout.now }
-    ensures all { OnOk result (Adds (K.held out.old) page.old (K.held out.new) page.new (division_lines case.now mesh.now)) }
-    ensures front { OnErr result (AddsFront (K.held out.old) page.old (K.held out.new) (division_lines case.now mesh.now)) }
+    ensures all { OnOk result
+        (Adds (K.held out.old) page.old (K.held out.new) page.new
+        (division_lines case.now mesh.now)) }
+    ensures front { OnErr result
+        (AddsFront (K.held out.old) page.old (K.held out.new) (division_lines case.now mesh.now)) }
     ensures cause { OnErr result (Rose (K.faults out.old) (K.faults out.new)) }
     ensures later { K.faults out.old ≤ K.faults out.new }
 {

@@ -1,4 +1,5 @@
-//! The texts of one line: usage, acceptance, refusals, and the place whose numbers left their range.
+//! The texts of one line: usage, acceptance, refusals, and the place whose numbers left their
+//! range.
 ghost use Rattle.std.specs.Prelude.{◌≡◌, ◌<◌, ◌≤◌, length, IfSome, OnOk, OnErr};
 ghost use Rattle.std.specs.Option.{option_map};
 ghost use Rattle.case_model.specs.Mesh.{IsNumbered};
@@ -13,7 +14,8 @@ use case_model::{Case, Mesh};
 use surge_io::{Failed, Line, Sink, put};
 
 /// Writes the line for words that aren't those of a command.
-/// `Failed` comes only where the sink's count of faults rose in this call, and then a first part was written.
+/// `Failed` comes only where the sink's count of faults rose in this call, and then a first part
+/// was written.
 #[tactic(auto, unfolding(crate::specs::Messages::usage_text))]
 pub fn write_usage<K: Sink>(out: &mut K) -> Result<(), Failed>
     ensures all { OnOk result (Appends (K.held out.old) (K.held out.new) usage_text) }
@@ -28,7 +30,8 @@ pub fn write_usage<K: Sink>(out: &mut K) -> Result<(), Failed>
 }
 
 /// Writes the line for a case text that is accepted.
-/// `Failed` comes only where the sink's count of faults rose in this call, and then a first part was written.
+/// `Failed` comes only where the sink's count of faults rose in this call, and then a first part
+/// was written.
 #[tactic(auto, unfolding(crate::specs::Messages::accepted_text))]
 pub fn write_accepted<K: Sink>(out: &mut K) -> Result<(), Failed>
     ensures all { OnOk result (Appends (K.held out.old) (K.held out.new) accepted_text) }
@@ -39,12 +42,13 @@ pub fn write_accepted<K: Sink>(out: &mut K) -> Result<(), Failed>
     put(out, b"accepted\n")
 }
 
-/// Writes the line of a refusal, by its number and the line of the case text that it stands on, or 0. A number that
-/// isn't that of a refusal has no reason.
-/// `Failed` comes only where the sink's count of faults rose in this call, and then a first part was written.
+/// Writes the line of a refusal, by its number and the line of the case text that it stands on, or
+/// 0. A number that isn't that of a refusal has no reason. `Failed` comes only where the sink's
+/// count of faults rose in this call, and then a first part was written.
 pub fn write_refusal<K: Sink>(number: u8, line: u64, out: &mut K) -> Result<(), Failed>
     ensures all { OnOk result (Appends (K.held out.old) (K.held out.new) (refusal_text number line)) }
-    ensures front { OnErr result (AppendsFront (K.held out.old) (K.held out.new) (refusal_text number line)) }
+    ensures front { OnErr result
+        (AppendsFront (K.held out.old) (K.held out.new) (refusal_text number line)) }
     ensures cause { OnErr result (Rose (K.faults out.old) (K.faults out.new)) }
     ensures later { K.faults out.old ≤ K.faults out.new }
 {
@@ -52,8 +56,9 @@ pub fn write_refusal<K: Sink>(number: u8, line: u64, out: &mut K) -> Result<(), 
     put(out, text.as_bytes())
 }
 
-/// Writes the line that names the first place, by its number, and the step at which its numbers left their range.
-/// `Failed` comes only where the sink's count of faults rose in this call, and then a first part was written.
+/// Writes the line that names the first place, by its number, and the step at which its numbers
+/// left their range. `Failed` comes only where the sink's count of faults rose in this call, and
+/// then a first part was written.
 pub fn write_range<K: Sink>(
     case: &Case,
     mesh: &Mesh,
@@ -65,8 +70,10 @@ pub fn write_range<K: Sink>(
     requires numbered { IsNumbered mesh.now }
     requires few { mesh.now.places ≤ 400_000 }
     requires there { place < mesh.now.places }
-    ensures all { OnOk result (Appends (K.held out.old) (K.held out.new) (range_text case.now mesh.now step place)) }
-    ensures front { OnErr result (AppendsFront (K.held out.old) (K.held out.new) (range_text case.now mesh.now step place)) }
+    ensures all { OnOk result
+        (Appends (K.held out.old) (K.held out.new) (range_text case.now mesh.now step place)) }
+    ensures front { OnErr result
+        (AppendsFront (K.held out.old) (K.held out.new) (range_text case.now mesh.now step place)) }
     ensures cause { OnErr result (Rose (K.faults out.old) (K.faults out.new)) }
     ensures later { K.faults out.old ≤ K.faults out.new }
 {

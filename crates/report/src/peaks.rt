@@ -24,7 +24,8 @@ pub(crate) fn peak_place(bound: Bound, mesh: &Mesh, fold: &Fold) -> ProbeAt
     requires over { IsOver mesh.now fold.now }
     requires some { 0 < length mesh.now.pipes }
     requires few { length mesh.now.pipes ≤ 4_096 }
-    ensures place { result ≡ first_unpassed (passing bound) (extremes_of mesh.now fold.now) (pipe_places mesh.now) }
+    ensures place { result
+        ≡ first_unpassed (passing bound) (extremes_of mesh.now fold.now) (pipe_places mesh.now) }
     ensures there { IsOnPipe mesh.now result }
 {
     let mut best = ProbeAt::OnPipe { pipe: 0, place: 0 };
@@ -39,7 +40,8 @@ fn best_with_pipe(bound: Bound, mesh: &Mesh, fold: &Fold, pipe: u32, best: Probe
     requires over { IsOver mesh.now fold.now }
     requires pipe { pipe < length mesh.now.pipes }
     requires there { IsOnPipe mesh.now best }
-    ensures place { result ≡ folded (better bound (extremes_of mesh.now fold.now)) best (places_of_pipe mesh.now pipe) }
+    ensures place { result
+        ≡ folded (better bound (extremes_of mesh.now fold.now)) best (places_of_pipe mesh.now pipe) }
     ensures there { IsOnPipe mesh.now result }
 {
     let mut best = best;

@@ -16,9 +16,9 @@ use case_model::{Case, Mesh, ProbeAt};
 use envelope::Fold;
 use surge_io::{Failed, Line, Page, Sink};
 
-/// Writes the report of a run, from what a fold keeps of it: the samples of probes and watches, the cavities, the
-/// envelope of each place, and the peak. `Failed` comes only where the sink's count of faults rose in this call, and
-/// then a first part was written.
+/// Writes the report of a run, from what a fold keeps of it: the samples of probes and watches, the
+/// cavities, the envelope of each place, and the peak. `Failed` comes only where the sink's count
+/// of faults rose in this call, and then a first part was written.
 pub fn write_report<K: Sink>(
     case: &Case,
     mesh: &Mesh,
@@ -26,8 +26,14 @@ pub fn write_report<K: Sink>(
     out: &mut K,
 ) -> Result<(), Failed>
     requires { IsReportable case.now mesh.now fold.now }
-    ensures all { OnOk result (Appends (K.held out.old) (K.held out.new) (report_text case.now mesh.now (λ at. extreme_kept fold.now (number_of mesh.now at)) (sample_kept fold.now))) }
-    ensures front { OnErr result (AppendsFront (K.held out.old) (K.held out.new) (report_text case.now mesh.now (λ at. extreme_kept fold.now (number_of mesh.now at)) (sample_kept fold.now))) }
+    ensures all { OnOk result
+        (Appends (K.held out.old) (K.held out.new)
+        (report_text case.now mesh.now (λ at. extreme_kept fold.now (number_of mesh.now at))
+        (sample_kept fold.now))) }
+    ensures front { OnErr result
+        (AppendsFront (K.held out.old) (K.held out.new)
+        (report_text case.now mesh.now (λ at. extreme_kept fold.now (number_of mesh.now at))
+        (sample_kept fold.now))) }
     ensures cause { OnErr result (Rose (K.faults out.old) (K.faults out.new)) }
     ensures later { K.faults out.old ≤ K.faults out.new }
 {
@@ -52,8 +58,12 @@ fn add_report<K: Sink>(
     out: &mut K,
 ) -> Result<(), Failed>
     requires { IsReportable case.now mesh.now fold.now }
-    ensures all { OnOk result (Adds (K.held out.old) page.old (K.held out.new) page.new (report_text case.now mesh.now (extremes_of mesh.now fold.now) (sample_kept fold.now))) }
-    ensures front { OnErr result (AddsFront (K.held out.old) page.old (K.held out.new) (report_text case.now mesh.now (extremes_of mesh.now fold.now) (sample_kept fold.now))) }
+    ensures all { OnOk result
+        (Adds (K.held out.old) page.old (K.held out.new) page.new
+        (report_text case.now mesh.now (extremes_of mesh.now fold.now) (sample_kept fold.now))) }
+    ensures front { OnErr result
+        (AddsFront (K.held out.old) page.old (K.held out.new)
+        (report_text case.now mesh.now (extremes_of mesh.now fold.now) (sample_kept fold.now))) }
     ensures cause { OnErr result (Rose (K.faults out.old) (K.faults out.new)) }
     ensures later { K.faults out.old ≤ K.faults out.new }
 {
@@ -73,8 +83,12 @@ fn add_samples<K: Sink>(
     out: &mut K,
 ) -> Result<(), Failed>
     requires { IsReportable case.now mesh.now fold.now }
-    ensures all { OnOk result (Adds (K.held out.old) page.old (K.held out.new) page.new (samples_text case.now (sample_kept fold.now))) }
-    ensures front { OnErr result (AddsFront (K.held out.old) page.old (K.held out.new) (samples_text case.now (sample_kept fold.now))) }
+    ensures all { OnOk result
+        (Adds (K.held out.old) page.old (K.held out.new) page.new
+        (samples_text case.now (sample_kept fold.now))) }
+    ensures front { OnErr result
+        (AddsFront (K.held out.old) page.old (K.held out.new)
+        (samples_text case.now (sample_kept fold.now))) }
     ensures cause { OnErr result (Rose (K.faults out.old) (K.faults out.new)) }
     ensures later { K.faults out.old ≤ K.faults out.new }
 {
@@ -96,8 +110,12 @@ fn add_probe<K: Sink>(
 ) -> Result<(), Failed>
     requires reportable { IsReportable case.now mesh.now fold.now }
     requires there { probe < length case.now.probes }
-    ensures all { OnOk result (Adds (K.held out.old) page.old (K.held out.new) page.new (probe_lines case.now (sample_kept fold.now) probe)) }
-    ensures front { OnErr result (AddsFront (K.held out.old) page.old (K.held out.new) (probe_lines case.now (sample_kept fold.now) probe)) }
+    ensures all { OnOk result
+        (Adds (K.held out.old) page.old (K.held out.new) page.new
+        (probe_lines case.now (sample_kept fold.now) probe)) }
+    ensures front { OnErr result
+        (AddsFront (K.held out.old) page.old (K.held out.new)
+        (probe_lines case.now (sample_kept fold.now) probe)) }
     ensures cause { OnErr result (Rose (K.faults out.old) (K.faults out.new)) }
     ensures later { K.faults out.old ≤ K.faults out.new }
 {
@@ -152,8 +170,12 @@ fn add_part<K: Sink>(
 ) -> Result<(), Failed>
     requires sized { IsSized case.now mesh.now }
     requires over { IsOver mesh.now fold.now }
-    ensures all { OnOk result (Adds (K.held out.old) page.old (K.held out.new) page.new (part_text part case.now mesh.now (extremes_of mesh.now fold.now))) }
-    ensures front { OnErr result (AddsFront (K.held out.old) page.old (K.held out.new) (part_text part case.now mesh.now (extremes_of mesh.now fold.now))) }
+    ensures all { OnOk result
+        (Adds (K.held out.old) page.old (K.held out.new) page.new
+        (part_text part case.now mesh.now (extremes_of mesh.now fold.now))) }
+    ensures front { OnErr result
+        (AddsFront (K.held out.old) page.old (K.held out.new)
+        (part_text part case.now mesh.now (extremes_of mesh.now fold.now))) }
     ensures cause { OnErr result (Rose (K.faults out.old) (K.faults out.new)) }
     ensures later { K.faults out.old ≤ K.faults out.new }
 {
@@ -172,8 +194,12 @@ fn add_nodes<K: Sink>(
 ) -> Result<(), Failed>
     requires sized { IsSized case.now mesh.now }
     requires over { IsOver mesh.now fold.now }
-    ensures all { OnOk result (Adds (K.held out.old) page.old (K.held out.new) page.new (node_lines part case.now mesh.now (extremes_of mesh.now fold.now))) }
-    ensures front { OnErr result (AddsFront (K.held out.old) page.old (K.held out.new) (node_lines part case.now mesh.now (extremes_of mesh.now fold.now))) }
+    ensures all { OnOk result
+        (Adds (K.held out.old) page.old (K.held out.new) page.new
+        (node_lines part case.now mesh.now (extremes_of mesh.now fold.now))) }
+    ensures front { OnErr result
+        (AddsFront (K.held out.old) page.old (K.held out.new)
+        (node_lines part case.now mesh.now (extremes_of mesh.now fold.now))) }
     ensures cause { OnErr result (Rose (K.faults out.old) (K.faults out.new)) }
     ensures later { K.faults out.old ≤ K.faults out.new }
 {
@@ -196,8 +222,12 @@ fn add_pipes<K: Sink>(
 ) -> Result<(), Failed>
     requires sized { IsSized case.now mesh.now }
     requires over { IsOver mesh.now fold.now }
-    ensures all { OnOk result (Adds (K.held out.old) page.old (K.held out.new) page.new (pipe_lines part case.now mesh.now (extremes_of mesh.now fold.now))) }
-    ensures front { OnErr result (AddsFront (K.held out.old) page.old (K.held out.new) (pipe_lines part case.now mesh.now (extremes_of mesh.now fold.now))) }
+    ensures all { OnOk result
+        (Adds (K.held out.old) page.old (K.held out.new) page.new
+        (pipe_lines part case.now mesh.now (extremes_of mesh.now fold.now))) }
+    ensures front { OnErr result
+        (AddsFront (K.held out.old) page.old (K.held out.new)
+        (pipe_lines part case.now mesh.now (extremes_of mesh.now fold.now))) }
     ensures cause { OnErr result (Rose (K.faults out.old) (K.faults out.new)) }
     ensures later { K.faults out.old ≤ K.faults out.new }
 {
@@ -221,8 +251,12 @@ fn add_pipe<K: Sink>(
     requires sized { IsSized case.now mesh.now }
     requires over { IsOver mesh.now fold.now }
     requires pipe { pipe < length mesh.now.pipes }
-    ensures all { OnOk result (Adds (K.held out.old) page.old (K.held out.new) page.new (lines_of_pipe part case.now mesh.now (extremes_of mesh.now fold.now) pipe)) }
-    ensures front { OnErr result (AddsFront (K.held out.old) page.old (K.held out.new) (lines_of_pipe part case.now mesh.now (extremes_of mesh.now fold.now) pipe)) }
+    ensures all { OnOk result
+        (Adds (K.held out.old) page.old (K.held out.new) page.new
+        (lines_of_pipe part case.now mesh.now (extremes_of mesh.now fold.now) pipe)) }
+    ensures front { OnErr result
+        (AddsFront (K.held out.old) page.old (K.held out.new)
+        (lines_of_pipe part case.now mesh.now (extremes_of mesh.now fold.now) pipe)) }
     ensures cause { OnErr result (Rose (K.faults out.old) (K.faults out.new)) }
     ensures later { K.faults out.old ≤ K.faults out.new }
 {
@@ -243,8 +277,12 @@ fn add_peak<K: Sink>(
     out: &mut K,
 ) -> Result<(), Failed>
     requires { IsReportable case.now mesh.now fold.now }
-    ensures all { OnOk result (Adds (K.held out.old) page.old (K.held out.new) page.new (peak_text case.now mesh.now (extremes_of mesh.now fold.now))) }
-    ensures front { OnErr result (AddsFront (K.held out.old) page.old (K.held out.new) (peak_text case.now mesh.now (extremes_of mesh.now fold.now))) }
+    ensures all { OnOk result
+        (Adds (K.held out.old) page.old (K.held out.new) page.new
+        (peak_text case.now mesh.now (extremes_of mesh.now fold.now))) }
+    ensures front { OnErr result
+        (AddsFront (K.held out.old) page.old (K.held out.new)
+        (peak_text case.now mesh.now (extremes_of mesh.now fold.now))) }
     ensures cause { OnErr result (Rose (K.faults out.old) (K.faults out.new)) }
     ensures later { K.faults out.old ≤ K.faults out.new }
 {

@@ -25,17 +25,20 @@ all_joints mesh = map (joints_of mesh) (range_with_len 0 (length mesh.pipes))
 -- the point beside a pipe end, of the points of all pipes
 abbrev pub beside : List (List Point) → End → Point
 beside lines e =
-    slice_index_or (slice_index_or lines e.pipe []) (if e.at_last then length (slice_index_or lines e.pipe []) - 2 else 1) Bad
+    slice_index_or (slice_index_or lines e.pipe [])
+    (if e.at_last then length (slice_index_or lines e.pipe []) - 2 else 1) Bad
 
 -- a list of points for each pipe, as many as the pipe has places
 pub record HasPlaces (mesh : Mesh) (lines : List (List Point)) : Type 0 where
   pub pipes : length lines ≡ length mesh.pipes
-  pub places : (p : ℕ) → p < length mesh.pipes → length (slice_index_or lines p []) ≡ reaches mesh p + 1
+  pub places : (p : ℕ) → p < length mesh.pipes
+      → length (slice_index_or lines p []) ≡ reaches mesh p + 1
 
 -- a list of points for each node, as many as the node has ends
 pub record HasEnds (mesh : Mesh) (given : List (List Point)) : Type 0 where
   pub nodes : length given ≡ length mesh.ends
-  pub ends : (k : ℕ) → k < length mesh.ends → length (slice_index_or given k []) ≡ length (ends_of mesh k)
+  pub ends : (k : ℕ) → k < length mesh.ends
+      → length (slice_index_or given k []) ≡ length (ends_of mesh k)
 
 -- for each place, in order of place numbers, whether it is Bad
 abbrev pub bad_marks : List NodeState → List (List Point) → List Bool

@@ -1,4 +1,5 @@
-//! The rows of a mesh, step by step over any hydraulic law, noted into a fold to the last step or to the first fault.
+//! The rows of a mesh, step by step over any hydraulic law, noted into a fold to the last step or
+//! to the first fault.
 #![tactic(auto)]
 
 mod fault;

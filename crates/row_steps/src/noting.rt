@@ -22,7 +22,9 @@ pub(crate) fn note_row(
     requires spans { spans_of fold.old ≡ (0, mesh.now.places) ∷ [] }
     requires own { length own.now ≡ length mesh.now.ends }
     requires lines { HasPlaces mesh.now lines.now }
-    ensures stands { (map : Noted) → HasStates step own.now map → HasLines mesh.now step lines.now map → Stands fold.old (before_place map step 0) → Stands fold.new (before_place map (step + 1) 0) }
+    ensures stands { (map : Noted) → HasStates step own.now map →
+        HasLines mesh.now step lines.now map → Stands fold.old (before_place map step 0) →
+        Stands fold.new (before_place map (step + 1) 0) }
     ensures same { IsSameFold fold.old fold.new }
 {
     note_states(step, own, fold);
@@ -32,7 +34,9 @@ pub(crate) fn note_row(
 /// Notes the states of all nodes.
 fn note_states(step: u64, own: &[NodeState], fold: &mut Fold)
     requires inside { (k : ℕ) → k < length own.now → is_within (spans_of fold.old) k ≡ true }
-    ensures stands { (map : Noted) → HasStates step own.now map → Stands fold.old (before_place map step 0) → Stands fold.new (before_place map step (length own.now)) }
+    ensures stands { (map : Noted) → HasStates step own.now map →
+        Stands fold.old (before_place map step 0) →
+        Stands fold.new (before_place map step (length own.now)) }
     ensures same { IsSameFold fold.old fold.new }
 {
     stands_for_equal_maps();
@@ -46,7 +50,9 @@ fn note_lines(mesh: &Mesh, step: u64, lines: &[List<Point>], fold: &mut Fold)
     requires numbered { IsNumbered mesh.now }
     requires spans { spans_of fold.old ≡ (0, mesh.now.places) ∷ [] }
     requires lines { HasPlaces mesh.now lines.now }
-    ensures stands { (map : Noted) → HasLines mesh.now step lines.now map → Stands fold.old (before_place map step (length mesh.now.ends)) → Stands fold.new (before_place map (step + 1) 0) }
+    ensures stands { (map : Noted) → HasLines mesh.now step lines.now map →
+        Stands fold.old (before_place map step (length mesh.now.ends)) →
+        Stands fold.new (before_place map (step + 1) 0) }
     ensures same { IsSameFold fold.old fold.new }
 {
     stands_for_equal_maps();
@@ -58,7 +64,9 @@ fn note_lines(mesh: &Mesh, step: u64, lines: &[List<Point>], fold: &mut Fold)
 /// Notes the points of one pipe, of which the first has the place number `first`.
 fn note_line(step: u64, first: u64, line: &[Point], fold: &mut Fold)
     requires span { AreInOneSpan (spans_of fold.old) first (length line.now) }
-    ensures stands { (map : Noted) → HasLine step first line.now map → Stands fold.old (before_place map step first) → Stands fold.new (before_place map step (first + length line.now)) }
+    ensures stands { (map : Noted) → HasLine step first line.now map →
+        Stands fold.old (before_place map step first) →
+        Stands fold.new (before_place map step (first + length line.now)) }
     ensures same { IsSameFold fold.old fold.new }
 {
     stands_for_equal_maps();

@@ -21,8 +21,9 @@ use envelope::{Fold, numbers_tell_places, stands_for_equal_maps};
 use std::alloc::{AllocError, Global};
 use std::mem;
 
-/// The first fault of a law's mesh up to the fold's last step, as step and place of the mesh. Where there
-/// is none the fold was told every row. All memory is taken before the first step; the error is want of it.
+/// The first fault of a law's mesh up to the fold's last step, as step and place of the mesh. Where
+/// there is none the fold was told every row. All memory is taken before the first step; the error
+/// is want of it.
 pub fn compute<L: Law>(
     alloc: Global,
     law: &L,
@@ -34,7 +35,8 @@ pub fn compute<L: Law>(
     requires room { steps_of fold.old < 2 ^ 63 }
     requires spans { spans_of fold.old ≡ (0, mesh.now.places) ∷ [] }
     requires fresh { Stands fold.old nothing }
-    ensures fault { IfOk result (λ fault. fault ≡ first_fault (L.meaning law.now) (steps_of fold.old)) }
+    ensures fault { IfOk result (λ fault. fault
+        ≡ first_fault (L.meaning law.now) (steps_of fold.old)) }
     ensures there { IfOk result (λ fault. IfSome fault (λ at. at.1 < mesh.now.places)) }
     ensures stands { result ≡ Ok None → Stands fold.new (rows_noted (L.meaning law.now)) }
     ensures same { IsSameFold fold.old fold.new }
@@ -50,8 +52,8 @@ pub fn compute<L: Law>(
     Ok(run_steps(law, mesh, &joints, fold, own, old, given, new))
 }
 
-/// Steps from the initial row, in `own` and `old`, to the fold's last step, or to the first row with a
-/// Bad place. Takes no memory: `given` and `new` are room for what a step makes.
+/// Steps from the initial row, in `own` and `old`, to the fold's last step, or to the first row
+/// with a Bad place. Takes no memory: `given` and `new` are room for what a step makes.
 fn run_steps<L: Law>(
     law: &L,
     mesh: &Mesh,
@@ -66,10 +68,12 @@ fn run_steps<L: Law>(
     requires range { IsMeaning (L.meaning law.now) }
     requires good { IsMesh (L.meaning law.now).mesh }
     requires numbered { IsNumbered (L.meaning law.now).mesh }
-    requires ends { (k : ℕ) → k < length (L.meaning law.now).mesh.ends → length (ends_of (L.meaning law.now).mesh k) ≤ MOST_ENDS }
+    requires ends { (k : ℕ) → k < length (L.meaning law.now).mesh.ends →
+        length (ends_of (L.meaning law.now).mesh k) ≤ MOST_ENDS }
     requires few { length (L.meaning law.now).mesh.ends < 2 ^ 32 }
     requires few_pipes { length (L.meaning law.now).mesh.pipes < 2 ^ 32 }
-    requires places { places_before (L.meaning law.now).mesh (length (L.meaning law.now).mesh.pipes) < 2 ^ 64 }
+    requires places { places_before (L.meaning law.now).mesh (length (L.meaning law.now).mesh.pipes)
+        < 2 ^ 64 }
     requires room { steps_of fold.old < 2 ^ 63 }
     requires spans { spans_of fold.old ≡ (0, (L.meaning law.now).mesh.places) ∷ [] }
     requires fresh { Stands fold.old nothing }

@@ -34,7 +34,8 @@ pub(crate) fn step_row<L: Law>(
     requires mesh { mesh.now ≡ (L.meaning law.now).mesh }
     requires range { IsMeaning (L.meaning law.now) }
     requires good { IsMesh (L.meaning law.now).mesh }
-    requires near { (k : ℕ) → k < length (L.meaning law.now).mesh.ends → length (ends_of (L.meaning law.now).mesh k) ≤ MOST_ENDS }
+    requires near { (k : ℕ) → k < length (L.meaning law.now).mesh.ends →
+        length (ends_of (L.meaning law.now).mesh k) ≤ MOST_ENDS }
     requires few { length (L.meaning law.now).mesh.ends < 2 ^ 32 }
     requires few_pipes { length (L.meaning law.now).mesh.pipes < 2 ^ 32 }
     requires room { step + 1 < 2 ^ 64 }
@@ -46,7 +47,9 @@ pub(crate) fn step_row<L: Law>(
     ensures states { own.new ≡ states (L.meaning law.now) (step + 1) }
     ensures points { new.new ≡ all_points (L.meaning law.now) (step + 1) }
     ensures given { HasEnds (L.meaning law.now).mesh given.new }
-    ensures bad { result ≡ has_bad (states (L.meaning law.now) (step + 1)) (all_points (L.meaning law.now) (step + 1)) }
+    ensures bad { result
+        ≡ has_bad (states (L.meaning law.now) (step + 1))
+        (all_points (L.meaning law.now) (step + 1)) }
 {
     let bad = step_nodes(law, mesh, step, own, old, given);
     let bad_line = step_pipes(law, joints, step, old, given, new);
@@ -64,7 +67,8 @@ fn step_nodes<L: Law>(
     requires mesh { mesh.now ≡ (L.meaning law.now).mesh }
     requires range { IsMeaning (L.meaning law.now) }
     requires good { IsMesh (L.meaning law.now).mesh }
-    requires near { (k : ℕ) → k < length (L.meaning law.now).mesh.ends → length (ends_of (L.meaning law.now).mesh k) ≤ MOST_ENDS }
+    requires near { (k : ℕ) → k < length (L.meaning law.now).mesh.ends →
+        length (ends_of (L.meaning law.now).mesh k) ≤ MOST_ENDS }
     requires few { length (L.meaning law.now).mesh.ends < 2 ^ 32 }
     requires room { step + 1 < 2 ^ 64 }
     requires own { own.old ≡ states (L.meaning law.now) step }
@@ -112,7 +116,8 @@ fn step_node<L: Law>(
     requires ends { ends.now ≡ ends_of (L.meaning law.now).mesh node }
     requires given { length given.old ≡ length ends.now }
     ensures state { result ≡ (row (L.meaning law.now) (step + 1)).state node }
-    ensures given { given.new ≡ node_ends (L.meaning law.now) (step + 1) (row (L.meaning law.now) step) node }
+    ensures given { given.new
+        ≡ node_ends (L.meaning law.now) (step + 1) (row (L.meaning law.now) step) node }
 {
     let mut room = [Point::Bad; MOST_ENDS];
     let near = &mut room[..ends.len()];
@@ -160,7 +165,8 @@ fn step_pipes<L: Law>(
     requires given { given.now ≡ all_ends (L.meaning law.now) step }
     requires new { HasPlaces (L.meaning law.now).mesh new.old }
     ensures points { new.new ≡ all_points (L.meaning law.now) (step + 1) }
-    ensures bad { result ≡ list_any (list_any bad_point) (all_points (L.meaning law.now) (step + 1)) }
+    ensures bad { result
+        ≡ list_any (list_any bad_point) (all_points (L.meaning law.now) (step + 1)) }
 {
     let mut bad = false;
     for (pipe, ends) in joints.iter().enumerate() {
@@ -177,7 +183,8 @@ fn step_pipes<L: Law>(
 /// The point that a node gives to one of its ends.
 fn given_at(given: &[List<Point>], joint: &Joint) -> Point
     requires { joint.now.node < length given.now }
-    ensures { result ≡ slice_index_or (slice_index_or given.now joint.now.node []) joint.now.index Bad }
+    ensures { result
+        ≡ slice_index_or (slice_index_or given.now joint.now.node []) joint.now.index Bad }
 {
     given[joint.node]
         .as_slice()
@@ -201,8 +208,10 @@ fn step_pipe<L: Law>(
     requires long { 2 ≤ reaches_of (L.meaning law.now).mesh pipe }
     requires small { reaches_of (L.meaning law.now).mesh pipe < 2 ^ 32 }
     requires old { old.now ≡ points (L.meaning law.now) step pipe }
-    requires first { ends.now.first ≡ end_point (L.meaning law.now) (step + 1) (row (L.meaning law.now) step) pipe false }
-    requires last { ends.now.last ≡ end_point (L.meaning law.now) (step + 1) (row (L.meaning law.now) step) pipe true }
+    requires first { ends.now.first
+        ≡ end_point (L.meaning law.now) (step + 1) (row (L.meaning law.now) step) pipe false }
+    requires last { ends.now.last
+        ≡ end_point (L.meaning law.now) (step + 1) (row (L.meaning law.now) step) pipe true }
     requires each { length new.old ≡ reaches_of (L.meaning law.now).mesh pipe + 1 }
     ensures points { new.new ≡ points (L.meaning law.now) (step + 1) pipe }
     ensures bad { result ≡ list_any bad_point (points (L.meaning law.now) (step + 1) pipe) }

@@ -21,12 +21,14 @@ use Rattle.case_model.specs.Parts.{node_at, no_node, pipe_at, no_pipe, table_at}
 use Rattle.case_model.specs.Places.{is_bad, is_bad_state}
 use Rattle.case_model.specs.Range.{InRange, InStateRange}
 use Rattle.case_model.specs.RangeLaws.{point_of-good, state_of-good}
+use Rattle.junctions.specs.Sums.{most_arrivals}
 use Rattle.scheme.specs.Computable.{IsComputable}
 use Rattle.scheme.specs.Laws.{meaning_of}
 use Rattle.scheme.specs.Starts.{start_head, start_inflow, start_volume, start_growth, start_node, head_between, start_point}
 use Rattle.scheme.specs.Values.{value_at}
 use Rattle.scheme.proofs.Shares.{part_below, share_up, share_down}
 use Rattle.scheme.proofs.TimeTables.{found}
+use Rattle.fixed_num.proofs.Orders.{less_of, not_less_of}
 
 -- ---- a part of the way between two numbers lies between them
 
@@ -50,12 +52,6 @@ part_between low high a b x d h i some m = elim (sign_of (b -ℤ a)) [
 as_size : (x : ℤ) → pos 0 ≤ℤ x → pos (unsigned_abs x) ≡ x
 as_size x h = omega (arith, ints)
 
-is_less : (x y : ℤ) → int_lt x y ≡ true → x <ℤ y
-is_less x y h = grind (arith, ints)
-
-not_less : (x y : ℤ) → int_lt x y ≡ false → y ≤ℤ x
-not_less x y h = grind (arith, ints)
-
 on_line_between : (low high : ℤ) (from to : ℤ × ℤ) (t : ℤ) → IsBetween low high from.1 → IsBetween low high to.1 → from.0 ≤ℤ t → t <ℤ to.0 → IsBetween low high (on_line from to t)
 unfolding on_line
 on_line_between low high from to t h i m n =
@@ -68,7 +64,7 @@ on_line_between low high from to t h i m n =
 step_between : (low high : ℤ) (from to : ℤ × ℤ) (t rest : ℤ) (before first : Bool) → int_lt t to.0 ≡ before → int_lt t from.0 ≡ first → IsBetween low high from.1 → IsBetween low high to.1 → IsBetween low high rest
     → IsBetween low high (cond before (cond first from.1 (on_line from to t)) rest)
 step_between low high from to t rest true true e f h i r = h
-step_between low high from to t rest true false e f h i r = on_line_between low high from to t h i (not_less t from.0 f) (is_less t to.0 e)
+step_between low high from to t rest true false e f h i r = on_line_between low high from to t h i (not_less_of t from.0 f) (less_of t to.0 e)
 step_between low high from to t rest false first e f h i r = r
 
 interp_between : (low high : ℤ) (points : List (ℤ × ℤ)) (t : ℤ) → 0 < length points → AllByRecursion (λ e. IsBetween low high e.1) points → IsBetween low high (interp points t)
@@ -147,10 +143,10 @@ inflow-in case (e ∷ ends) read =
     let x = cond e.at_last (pipe_at case e.pipe).flow (neg_ℤ (pipe_at case e.pipe).flow) in
     added x (start_inflow case ends) (length ends) (omega (arith, a, f)) r
 
-inflow_few : (case : Case) (ends : List End) → IsRead case → length ends ≤ 8 → unsigned_abs (start_inflow case ends) ≤ 8_000_000_000_000
+inflow_few : (case : Case) (ends : List End) → IsRead case → length ends ≤ most_arrivals → unsigned_abs (start_inflow case ends) ≤ 16_000_000_000_000
 inflow_few case ends read h = omega (arith, inflow-in case ends read)
 
-start_growth-in : (case : Case) (kind : NodeKind) (ends : List End) → IsRead case → length ends ≤ 8 → unsigned_abs (start_growth case kind ends) ≤ 8_000_000_000_000
+start_growth-in : (case : Case) (kind : NodeKind) (ends : List End) → IsRead case → length ends ≤ most_arrivals → unsigned_abs (start_growth case kind ends) ≤ 16_000_000_000_000
 start_growth-in case (Reservoir head) ends read h = omega arith
 start_growth-in case (Junction demand start) ends read h = omega arith
 start_growth-in case (Discharge q0 h0 outlet opening start) ends read h = omega arith
@@ -161,7 +157,7 @@ start_growth-in case (Vessel gas volume) ends read h = inflow_few case ends read
 
 -- ---- the start
 
-state_good : (h v g : ℤ) → IsHead h → IsVolume v → unsigned_abs g ≤ 8_000_000_000_000 → InStateRange h v g
+state_good : (h v g : ℤ) → IsHead h → IsVolume v → unsigned_abs g ≤ 16_000_000_000_000 → InStateRange h v g
 state_good h v g a b c = let l = b.low in let m = b.high in record { head = a; low = l; volume = omega (arith, ints); growth = omega arith }
 
 pub node_starts : (case : Case) (mesh : Mesh) → IsComputable case mesh → (k : ℕ) → k < length mesh.ends → is_bad_state (start_node case mesh k) ≡ false

@@ -1,6 +1,7 @@
 -- What arrives at a node along its pipe ends. After Wylie and Streeter, Fluid Transients in Systems:
 -- boundary conditions.
 use Rattle.std.specs.Prelude.{◌<◌, ℕ, ℤ, Option, Some, None, if◌then◌else◌, List, [], ◌∷◌, length, slice_index_or}
+use Rattle.case_model.specs.declared.cases.Friction.{Friction}
 use Rattle.case_model.specs.declared.points.Point.{Point}
 use Rattle.case_model.specs.declared.meshes.Arrival.{Arrival}
 use Rattle.case_model.specs.declared.meshes.End.{End}
@@ -20,22 +21,20 @@ pub record HasCoefficients (mesh : Mesh) : Type 0 where
   pub impedances : (p : ℕ) → p < length mesh.pipes → IsImpedance (impedance mesh p)
   pub resistances : (p : ℕ) → p < length mesh.pipes → IsResistance (resistance mesh p)
 
-abbrev pub arrival : ℤ → Option ℤ → Option Arrival
-arrival b (Some c) = Some (record { c = c; b = b })
-arrival b None = None
-
 -- what arrives along one end, from the point beside it: C+ at a pipe's last place, C- at place 0
-abbrev pub arrival_from : Mesh → End → Point → Option Arrival
-arrival_from mesh e point =
-    arrival (impedance mesh e.pipe) (if e.at_last then arrive_plus (impedance mesh e.pipe) (resistance mesh e.pipe) point else arrive_minus (impedance mesh e.pipe) (resistance mesh e.pipe) point)
+abbrev pub arrival_from : Friction → Mesh → End → Point → Option Arrival
+arrival_from friction mesh e point =
+    if e.at_last then arrive_plus friction (impedance mesh e.pipe) (resistance mesh e.pipe) point
+    else arrive_minus friction (impedance mesh e.pipe) (resistance mesh e.pipe) point
 
 abbrev pub joined : Option Arrival → Option (List Arrival) → Option (List Arrival)
 joined (Some a) (Some arrivals) = Some (a ∷ arrivals)
 joined (Some a) None = None
 joined None arrivals = None
 
--- what arrives along all ends; nothing where one point is Bad or one value out of range
-abbrev pub arrivals_from : Mesh → List End → List Point → Option (List Arrival)
-arrivals_from mesh [] near = Some []
-arrivals_from mesh (e ∷ ends) [] = None
-arrivals_from mesh (e ∷ ends) (point ∷ near) = joined (arrival_from mesh e point) (arrivals_from mesh ends near)
+-- what arrives along all ends; nothing where one point is Bad or one characteristic out of range
+abbrev pub arrivals_from : Friction → Mesh → List End → List Point → Option (List Arrival)
+arrivals_from friction mesh [] near = Some []
+arrivals_from friction mesh (e ∷ ends) [] = None
+arrivals_from friction mesh (e ∷ ends) (point ∷ near) =
+    joined (arrival_from friction mesh e point) (arrivals_from friction mesh ends near)

@@ -3,6 +3,7 @@ use Rattle.std.specs.Prelude.{ℕ, Bool, true, false, cond, ◌&&◌, ◌==◌, 
 use Rattle.std.specs.List.{AllByRecursion, list_all}
 use Rattle.std.proofs.lemmas.List.Elements.{All-from_recursion}
 use Rattle.case_model.specs.declared.cases.Case.{Case}
+use Rattle.case_model.specs.declared.cases.Friction.{Friction}
 use Rattle.case_model.specs.declared.cases.NodeKind.{NodeKind}
 use Rattle.case_model.specs.declared.cases.NodeKind.TheVariants.{Reservoir, Junction, Discharge, Inline, Pump, Tank, Vessel}
 use Rattle.case_model.specs.declared.meshes.Arrival.{Arrival}
@@ -18,6 +19,7 @@ use Rattle.case_model.specs.declared.states.NodeState.TheVariants.{Good as GoodS
 use Rattle.case_model.specs.Meaning.{IsMeaning}
 use Rattle.case_model.specs.Mesh.{ends_of}
 use Rattle.case_model.specs.Range.{IsPoint, IsState, state_of}
+use Rattle.case_model.specs.Refusals.{is_over}
 use Rattle.case_model.specs.RangeLaws.{point_of-in_range, state_of-in_range}
 use Rattle.charline.specs.Characteristics.{arrive_plus, arrive_minus}
 use Rattle.charline.specs.Cavity.{cavity_volume}
@@ -42,28 +44,29 @@ choose : (b : Bool) (p q : Point) → IsPoint p → IsPoint q → IsPoint (cond 
 choose true p q h k = h
 choose false p q h k = k
 
-kept-good : (rule : CavityRule) (b plus minus volume : ℤ) → IsPoint (kept_or_closed rule b plus minus volume)
-kept-good rule b plus minus volume = choose (int_lt (pos 0) volume) _ _ (point_of-in_range _ _ _ _) (point_of-in_range _ _ _ _)
+kept-good : (rule : CavityRule) (plus minus : Arrival) (volume : ℤ) → IsPoint (kept_or_closed rule plus minus volume)
+kept-good rule plus minus volume = choose (int_lt (pos 0) volume) _ _ (point_of-in_range _ _ _ _) (point_of-in_range _ _ _ _)
 
-meet-good : (rule : CavityRule) (b plus minus qu qd volume : ℤ) → IsPoint (meet rule b plus minus qu qd volume)
+meet-good : (rule : CavityRule) (plus minus : Arrival) (volume before : ℤ) → IsPoint (meet rule plus minus volume before)
 unfolding meet
-meet-good rule b plus minus qu qd volume =
-    choose ((unsigned_abs volume == 0) && int_le rule.hv (meeting_head plus minus)) _ _ (point_of-in_range _ _ _ _) (kept-good rule b plus minus
-    (cavity_volume rule volume (growth qu qd) (growth (flow_before b rule.hv plus) (flow_after b rule.hv minus))))
+meet-good rule plus minus volume before =
+    choose ((unsigned_abs volume == 0) && int_le rule.hv (meeting_head plus minus)) _ _ (point_of-in_range _ _ _ _) (kept-good rule plus minus
+    (cavity_volume rule volume before (growth (flow_before rule.hv plus) (flow_after rule.hv minus))))
 
-meet_if-good : (rule : CavityRule) (b : ℤ) (plus minus : Option ℤ) (qu qd volume : ℤ) → IsPoint (meet_if rule b plus minus qu qd volume)
-meet_if-good rule b (Some plus) (Some minus) qu qd volume = meet-good rule b plus minus qu qd volume
-meet_if-good rule b (Some plus) None qu qd volume = tt
-meet_if-good rule b None minus qu qd volume = tt
+meet_if-good : (rule : CavityRule) (plus minus : Option Arrival) (volume before : ℤ) → IsPoint (meet_if rule plus minus volume before)
+meet_if-good rule (Some plus) (Some minus) volume before = meet-good rule plus minus volume before
+meet_if-good rule (Some plus) None volume before = tt
+meet_if-good rule None minus volume before = tt
 
-inner_point-good : (rule : CavityRule) (b r : ℤ) (left own right : Point) → IsPoint (inner_point rule b r left own right)
+inner_point-good : (friction : Friction) (rule : CavityRule) (b r : ℤ) (left own right : Point) → IsPoint (inner_point friction rule b r left own right)
 unfolding inner_point
-inner_point-good rule b r left (Good h qu qd v) right = meet_if-good rule b (arrive_plus b r left) (arrive_minus b r right) qu qd v
-inner_point-good rule b r left Bad right = tt
+inner_point-good friction rule b r left (Good h qu qd v) right =
+    meet_if-good rule (arrive_plus friction b r left) (arrive_minus friction b r right) v (growth qu qd)
+inner_point-good friction rule b r left Bad right = tt
 
 inner_law-good : (case : Case) (mesh : Mesh) (p i : ℕ) (left own right : Point) → IsPoint (inner_law case mesh p i left own right)
 unfolding inner_law
-inner_law-good case mesh p i left own right = inner_point-good _ _ _ left own right
+inner_law-good case mesh p i left own right = inner_point-good _ _ _ _ left own right
 
 -- ---- states of nodes
 
@@ -120,7 +123,9 @@ discharge_after-good rule valve opening q head volume growth a =
 
 discharge_end-good : (rule : CavityRule) (valve : Valve) (opening : ℤ) (own : NodeState) (a : Arrival) → IsState (discharge_end rule valve opening own a).0
 unfolding discharge_end
-discharge_end-good rule valve opening (GoodState h v g) a = discharge_after-good rule valve opening (liquid_flow valve opening a) (liquid_head a (liquid_flow valve opening a)) v g a
+discharge_end-good rule valve opening (GoodState h v g) a =
+    choose_first (is_over valve.q0 valve.h0 a.b) (BadState, pos 0) _ tt
+    (discharge_after-good rule valve opening (liquid_flow valve opening a) (liquid_head a (liquid_flow valve opening a)) v g a)
 discharge_end-good rule valve opening BadState a = tt
 
 discharge-good : (rule : CavityRule) (valve : Valve) (opening : ℤ) (own : NodeState) (a : Arrival) → IsState (discharge_state rule valve opening own a)
@@ -191,7 +196,7 @@ law_if-good case hv kind step own ends None = (tt, bad_points-good ends)
 
 node_law-good : (case : Case) (mesh : Mesh) (k step : ℕ) (own : NodeState) (near : List Point) → AreGood (node_law case mesh k step own near)
 unfolding node_law
-node_law-good case mesh k step own near = law_if-good case _ _ step own (ends_of mesh k) (arrivals_from mesh (ends_of mesh k) near)
+node_law-good case mesh k step own near = law_if-good case _ _ step own (ends_of mesh k) (arrivals_from case.friction mesh (ends_of mesh k) near)
 
 start_point-good : (case : Case) (mesh : Mesh) (p i : ℕ) → IsPoint (start_point case mesh p i)
 unfolding start_point

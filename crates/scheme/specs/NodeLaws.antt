@@ -66,4 +66,4 @@ law_if case hv kind step own ends None = (BadState, bad_points ends)
 -- the law of node k at a step, from its old state and the points beside it
 unfoldable pub node_law : Case → Mesh → ℕ → ℕ → NodeState → List Point → NodeState × List Point
 node_law case mesh k step own near =
-    law_if case (node_vapour_head case k) (node_at case k).kind step own (ends_of mesh k) (arrivals_from mesh (ends_of mesh k) near)
+    law_if case (node_vapour_head case k) (node_at case k).kind step own (ends_of mesh k) (arrivals_from case.friction mesh (ends_of mesh k) near)

@@ -1,5 +1,5 @@
 -- What a law relies on holds in one way at most.
-use Rattle.std.specs.Prelude.{ℕ, ℤ, pos, List}
+use Rattle.std.proofs.Common.{◌≡◌, ℕ, ℤ, pos, inl, inr, ap, List, arith}
 use Rattle.std.proofs.Props.{props}
 use Rattle.case_model.specs.declared.cases.Case.{Case}
 use Rattle.case_model.specs.declared.cases.Node.{Node}
@@ -12,10 +12,9 @@ use Rattle.case_model.specs.declared.cases.NodeKind.{NodeKind}
 use Rattle.case_model.specs.declared.cases.NodeKind.TheVariants.{Reservoir, Junction, Discharge, Inline, Pump, Tank, Vessel}
 use Rattle.case_model.specs.declared.cases.ProbeAt.{ProbeAt}
 use Rattle.case_model.specs.declared.cases.ProbeAt.TheVariants.{OnPipe, OnNode}
-use Rattle.case_model.specs.declared.meshes.Arrival.{Arrival}
 use Rattle.case_model.specs.declared.meshes.End.{End}
 use Rattle.case_model.specs.declared.meshes.Mesh.{Mesh}
-use Rattle.case_model.specs.Limits.{IsHead, IsFlow, IsWithin, IsEntry, IsInOrder, IsTable, IsTableOf, IsValue, IsKind, IsNode, IsSpot, IsRead}
+use Rattle.case_model.specs.Limits.{IsHead, IsFlow, IsWithin, IsEntry, IsInOrder, IsTable, IsTableOf, IsValue, IsKind, IsNode, IsSpot, IsVersion, IsRead}
 use Rattle.scheme.specs.Computable.{Suits, HasEnds, IsComputable}
 
 IsWithin-prop : (low high x : ℤ) → IsProp (IsWithin low high x)
@@ -72,20 +71,29 @@ IsSpot-prop : (pipes nodes : ℕ) (at : ProbeAt) → IsProp (IsSpot pipes nodes 
 IsSpot-prop pipes nodes (OnPipe pipe place) = Prim.hlevel props
 IsSpot-prop pipes nodes (OnNode node) = Prim.hlevel props
 
+one_version : (v n : ℕ) → IsProp (v ≡ n)
+one_version v n = Prim.hlevel props
+
+IsVersion-prop : (v : ℕ) → IsProp (IsVersion v)
+IsVersion-prop v (inl p) (inl q) = ap inl (one_version v 1 p q)
+IsVersion-prop v (inl p) (inr q) = absurd (omega arith)
+IsVersion-prop v (inr p) (inl q) = absurd (omega arith)
+IsVersion-prop v (inr p) (inr q) = ap inr (one_version v 2 p q)
+
 IsRead-prop : (case : Case) → IsProp (IsRead case)
-IsRead-prop case = Prim.hlevel (props, IsTable-prop, IsNode-prop, IsSpot-prop)
+IsRead-prop case = Prim.hlevel (props, IsVersion-prop, IsTable-prop, IsNode-prop, IsSpot-prop)
 
-Suits-prop : (kind : NodeKind) (ends : List End) (arrivals : List Arrival) → IsProp (Suits kind ends arrivals)
-Suits-prop (Reservoir head) ends arrivals = Prim.hlevel props
-Suits-prop (Junction demand start) ends arrivals = Prim.hlevel props
-Suits-prop (Discharge q0 h0 outlet opening start) ends arrivals = Prim.hlevel props
-Suits-prop (Inline q0 h0 opening start start2) ends arrivals = Prim.hlevel props
-Suits-prop (Pump curve speed start start2) ends arrivals = Prim.hlevel props
-Suits-prop (Tank area start) ends arrivals = Prim.hlevel props
-Suits-prop (Vessel gas volume) ends arrivals = Prim.hlevel props
+Suits-prop : (kind : NodeKind) (ends : List End) → IsProp (Suits kind ends)
+Suits-prop (Reservoir head) ends = Prim.hlevel props
+Suits-prop (Junction demand start) ends = Prim.hlevel props
+Suits-prop (Discharge q0 h0 outlet opening start) ends = Prim.hlevel props
+Suits-prop (Inline q0 h0 opening start start2) ends = Prim.hlevel props
+Suits-prop (Pump curve speed start start2) ends = Prim.hlevel props
+Suits-prop (Tank area start) ends = Prim.hlevel props
+Suits-prop (Vessel gas volume) ends = Prim.hlevel props
 
-HasEnds-prop : (mesh : Mesh) (kind : NodeKind) (ends : List End) → IsProp (HasEnds mesh kind ends)
-HasEnds-prop mesh kind ends = Prim.hlevel (props, Suits-prop)
+HasEnds-prop : (kind : NodeKind) (ends : List End) → IsProp (HasEnds kind ends)
+HasEnds-prop kind ends = Prim.hlevel (props, Suits-prop)
 
 pub IsComputable-prop : (case : Case) (mesh : Mesh) → IsProp (IsComputable case mesh)
 IsComputable-prop case mesh = Prim.hlevel (props, IsRead-prop, HasEnds-prop)

@@ -1,3 +1,4 @@
+//! The points of a node's pipe ends.
 ghost use Rattle.std.specs.Prelude.{◌≡◌, IsTrue, length};
 ghost use Rattle.case_model.specs.Refusals.{is_through};
 ghost use Rattle.charline.specs.Characteristics.{IsArrival};

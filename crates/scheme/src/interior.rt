@@ -1,36 +1,150 @@
-ghost use Rattle.std.specs.Prelude.{◌≡◌, ◌<◌, ◌≤◌, length};
+//! The law of the inner places of a pipe, one by one and by runs.
+ghost use Rattle.std.specs.Prelude.{◌≡◌, ◌+◌, ◌^◌, ◌<◌, ◌≤◌, length, All};
+ghost use Rattle.case_model.specs.declared.cases.Friction.TheVariants.{
+  Explicit as ExplicitFriction,
+  Linear as LinearFriction,
+};
 ghost use Rattle.case_model.specs.Mesh.{reaches as reaches_of};
 ghost use Rattle.case_model.specs.Range.{IsPoint};
+ghost use Rattle.case_model.specs.Runs.{run_of};
 ghost use Rattle.scheme.specs.Computable.{IsComputable};
-ghost use Rattle.scheme.specs.Laws.{inner_law as law_of_place};
+ghost use Rattle.scheme.specs.Laws.{inner_law as law_of_place, meaning_of};
 
 use crate::arrivals::{impedance, resistance};
 use crate::levels::vapour_head;
 use crate::values::cavity_rule;
-use case_model::{Case, Mesh, Point};
-use charline::inner_point;
+use case_model::{Case, Friction, Mesh, Point};
+use charline::{explicit_point, linear_point};
+
+/// A place of a pipe.
+#[derive(Clone, Copy)]
+pub(crate) struct At {
+    /// The index of the pipe.
+    pub(crate) pipe: u32,
+    /// The place on it.
+    pub(crate) place: u32,
+}
 
 /// The point of an inner place of a pipe one step later, of its neighbours and itself.
-#[tactic(auto, unfolding(crate::specs::Laws::inner_law))]
 pub(crate) fn inner_law(
     case: &Case,
     mesh: &Mesh,
-    pipe: u32,
-    place: u32,
+    at: At,
     left: &Point,
     own: &Point,
     right: &Point,
 ) -> Point
     requires fit { IsComputable case.now mesh.now }
-    requires on_mesh { pipe < length mesh.now.pipes }
-    requires on_pipe { place ≤ reaches_of mesh.now pipe }
+    requires on_mesh { at.pipe < length mesh.now.pipes }
+    requires on_pipe { at.place ≤ reaches_of mesh.now at.pipe }
     requires left_in { IsPoint left.now }
     requires own_in { IsPoint own.now }
     requires right_in { IsPoint right.now }
-    ensures { result ≡ law_of_place case.now mesh.now pipe place left.now own.now right.now }
+    ensures { result ≡ law_of_place case.now mesh.now at.pipe at.place left.now own.now right.now }
 {
-    let rule = cavity_rule(case, vapour_head(case, mesh, pipe, place));
-    let b = impedance(mesh, pipe);
-    let r = resistance(mesh, pipe);
-    inner_point(&rule, b, r, left, own, right)
+    match case.friction {
+        Friction::Explicit => explicit_law(case, mesh, at, left, own, right),
+        Friction::Linear => linear_law(case, mesh, at, left, own, right),
+    }
+}
+
+fn explicit_law(case: &Case, mesh: &Mesh, at: At, left: &Point, own: &Point, right: &Point) -> Point
+    requires fit { IsComputable case.now mesh.now }
+    requires friction { case.now.friction ≡ ExplicitFriction }
+    requires on_mesh { at.pipe < length mesh.now.pipes }
+    requires on_pipe { at.place ≤ reaches_of mesh.now at.pipe }
+    requires left_in { IsPoint left.now }
+    requires own_in { IsPoint own.now }
+    requires right_in { IsPoint right.now }
+    ensures { result ≡ law_of_place case.now mesh.now at.pipe at.place left.now own.now right.now }
+{
+    let rule = cavity_rule(case, vapour_head(case, mesh, at.pipe, at.place));
+    let b = impedance(mesh, at.pipe);
+    let r = resistance(mesh, at.pipe);
+    explicit_point(&rule, b, r, left, own, right)
+}
+
+fn linear_law(case: &Case, mesh: &Mesh, at: At, left: &Point, own: &Point, right: &Point) -> Point
+    requires fit { IsComputable case.now mesh.now }
+    requires friction { case.now.friction ≡ LinearFriction }
+    requires on_mesh { at.pipe < length mesh.now.pipes }
+    requires on_pipe { at.place ≤ reaches_of mesh.now at.pipe }
+    requires left_in { IsPoint left.now }
+    requires own_in { IsPoint own.now }
+    requires right_in { IsPoint right.now }
+    ensures { result ≡ law_of_place case.now mesh.now at.pipe at.place left.now own.now right.now }
+{
+    let rule = cavity_rule(case, vapour_head(case, mesh, at.pipe, at.place));
+    let b = impedance(mesh, at.pipe);
+    let r = resistance(mesh, at.pipe);
+    linear_point(&rule, b, r, left, own, right)
+}
+
+/// The points of a run of inner places of a pipe from place `first` on, as of `inner_law`. Friction is
+/// looked at once a run.
+pub(crate) fn inner_run(
+    case: &Case,
+    mesh: &Mesh,
+    pipe: u32,
+    first: u32,
+    before: &[Point],
+    now: &mut [Point],
+)
+    requires fit { IsComputable case.now mesh.now }
+    requires on_mesh { pipe < length mesh.now.pipes }
+    requires before_last { first + length now.old ≤ reaches_of mesh.now pipe }
+    requires fits { first + length now.old < 2 ^ 32 }
+    requires each { length before.now ≡ length now.old + 2 }
+    requires before_in { All IsPoint before.now }
+    ensures { now.new ≡ run_of (meaning_of case.now mesh.now) pipe first before.now (length now.old) }
+{
+    match case.friction {
+        Friction::Explicit => explicit_run(case, mesh, pipe, first, before, now),
+        Friction::Linear => linear_run(case, mesh, pipe, first, before, now),
+    }
+}
+
+fn explicit_run(
+    case: &Case,
+    mesh: &Mesh,
+    pipe: u32,
+    first: u32,
+    before: &[Point],
+    now: &mut [Point],
+)
+    requires fit { IsComputable case.now mesh.now }
+    requires friction { case.now.friction ≡ ExplicitFriction }
+    requires on_mesh { pipe < length mesh.now.pipes }
+    requires before_last { first + length now.old ≤ reaches_of mesh.now pipe }
+    requires fits { first + length now.old < 2 ^ 32 }
+    requires each { length before.now ≡ length now.old + 2 }
+    requires before_in { All IsPoint before.now }
+    ensures { now.new ≡ run_of (meaning_of case.now mesh.now) pipe first before.now (length now.old) }
+{
+    for (k, point) in now.iter_mut().enumerate() {
+        let at = At {
+            pipe,
+            place: first + k as u32,
+        };
+        *point = explicit_law(case, mesh, at, &before[k], &before[k + 1], &before[k + 2]);
+    }
+}
+
+fn linear_run(case: &Case, mesh: &Mesh, pipe: u32, first: u32, before: &[Point], now: &mut [Point])
+    requires fit { IsComputable case.now mesh.now }
+    requires friction { case.now.friction ≡ LinearFriction }
+    requires on_mesh { pipe < length mesh.now.pipes }
+    requires before_last { first + length now.old ≤ reaches_of mesh.now pipe }
+    requires fits { first + length now.old < 2 ^ 32 }
+    requires each { length before.now ≡ length now.old + 2 }
+    requires before_in { All IsPoint before.now }
+    ensures { now.new ≡ run_of (meaning_of case.now mesh.now) pipe first before.now (length now.old) }
+{
+    for (k, point) in now.iter_mut().enumerate() {
+        let at = At {
+            pipe,
+            place: first + k as u32,
+        };
+        *point = linear_law(case, mesh, at, &before[k], &before[k + 1], &before[k + 2]);
+    }
 }

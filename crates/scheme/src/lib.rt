@@ -15,6 +15,3 @@ mod starts;
 mod values;
 
 pub use physics::Physics;
-
-#[cfg(test)]
-mod tests;

@@ -1,6 +1,7 @@
-ghost use Rattle.std.specs.Prelude.{◌≡◌, ◌<◌, ◌≤◌, pos, ◌+ℤ◌, unsigned_abs, IsTrue, length, [], ◌∷◌, All};
+//! The law of a node, by its kind.
+ghost use Rattle.std.specs.Prelude.{◌≡◌, ◌<◌, ◌≤◌, pos, unsigned_abs, IsTrue, length, [], ◌∷◌, All};
 ghost use Rattle.case_model.specs.declared.cases.TableKind.TheVariants.{Curve, Gas};
-ghost use Rattle.case_model.specs.Limits.{IsHead, IsFlow, IsWithin, IsKind, IsRead, IsTableOf};
+ghost use Rattle.case_model.specs.Limits.{IsHead, IsFlow, IsWithin, IsKind, IsRead, IsTableOf, IsValve};
 ghost use Rattle.case_model.specs.Mesh.{ends_of};
 ghost use Rattle.case_model.specs.Parts.{node_at, table_at};
 ghost use Rattle.case_model.specs.Range.{IsPoint, IsState};
@@ -8,7 +9,7 @@ ghost use Rattle.case_model.specs.Refusals.{is_through};
 ghost use Rattle.charline.specs.Cavity.{IsRule};
 ghost use Rattle.charline.specs.Characteristics.{IsArrival};
 ghost use Rattle.junctions.specs.Junctions.{reservoir_state, reservoir_flows, junction_state, junction_flows};
-ghost use Rattle.valves.specs.Orifices.{IsOrifice};
+ghost use Rattle.junctions.specs.Sums.{most_arrivals};
 ghost use Rattle.valves.specs.Discharges.{discharge_state, discharge_flow};
 ghost use Rattle.valves.specs.Devices.{inline_through};
 ghost use Rattle.pumps.specs.Pumps.{pump_through};
@@ -22,14 +23,15 @@ use crate::arrivals::gather;
 use crate::ends::{bad_points, end_points, pass, sides};
 use crate::levels::node_vapour_head;
 use crate::values::{cavity_rule, demand_at, head_at, opening_at, speed_at};
-use case_model::{Arrival, Case, CavityRule, End, Mesh, NodeKind, NodeState, Point};
+use case_model::{Arrival, Case, CavityRule, End, MOST_ENDS, Mesh, NodeKind, NodeState, Point};
 use junctions::{junction, reservoir};
 use pumps::pump_flow;
 use valves::{Valve, discharge, inline};
 use vessels::{tank, vessel};
 
 /// The state of a node at a step, of its old state and the points beside it; `points` receives the point
-/// of each of its ends. Bad where something that it reads or a number of the result is.
+/// of each of its ends. Bad exactly where something that it reads is, a characteristic is out of range,
+/// a valve is over its limit, or a head, flow or volume of the result is out of range.
 #[tactic(auto, unfolding(crate::specs::NodeLaws::node_law))]
 pub(crate) fn node_law(
     case: &Case,
@@ -70,18 +72,18 @@ fn law_at(
     requires coefficients { HasCoefficients mesh.now }
     requires head_in { unsigned_abs hv ≤ 100_000_000_000 }
     requires kind_in { IsKind case.now.tables kind.now }
-    requires has_ends { HasEnds mesh.now kind.now ends.now }
+    requires has_ends { HasEnds kind.now ends.now }
     requires ends_in { All (λ e. e.pipe < length mesh.now.pipes) ends.now }
     requires own_in { IsState own.now }
     requires near_each { length near.now ≡ length ends.now }
     requires near_in { All IsPoint near.now }
     requires points_each { length points.old ≡ length ends.now }
-    ensures state { result ≡ (law_if case.now hv kind.now step own.now ends.now (arrivals_from mesh.now ends.now near.now)).0 }
-    ensures points { points.new ≡ (law_if case.now hv kind.now step own.now ends.now (arrivals_from mesh.now ends.now near.now)).1 }
+    ensures state { result ≡ (law_if case.now hv kind.now step own.now ends.now (arrivals_from case.now.friction mesh.now ends.now near.now)).0 }
+    ensures points { points.new ≡ (law_if case.now hv kind.now step own.now ends.now (arrivals_from case.now.friction mesh.now ends.now near.now)).1 }
 {
-    let mut arrivals = [Arrival { c: 0, b: 0 }; 8];
+    let mut arrivals = [Arrival { c: 0, b: 0 }; MOST_ENDS];
     let arrivals = &mut arrivals[..ends.len()];
-    if !gather(mesh, ends, near, arrivals) {
+    if !gather(case.friction, mesh, ends, near, arrivals) {
         bad_points(ends, points);
         return NodeState::Bad;
     }
@@ -102,10 +104,10 @@ fn kind_law(
     requires read { IsRead case.now }
     requires head_in { unsigned_abs hv ≤ 100_000_000_000 }
     requires kind_in { IsKind case.now.tables kind.now }
-    requires suits { Suits kind.now ends.now arrivals.now }
+    requires suits { Suits kind.now ends.now }
     requires own_in { IsState own.now }
     requires some { 0 < length ends.now }
-    requires few { length ends.now ≤ 8 }
+    requires few { length ends.now ≤ most_arrivals }
     requires each { length arrivals.now ≡ length ends.now }
     requires points_each { length points.old ≡ length ends.now }
     requires arrivals_in { All IsArrival arrivals.now }
@@ -185,14 +187,14 @@ fn valve(q0: i64, h0: i64, outlet: i64) -> Valve
 fn reservoir_law(head: i64, ends: &[End], arrivals: &[Arrival], points: &mut [Point]) -> NodeState
     requires head_in { IsHead head }
     requires some { 0 < length ends.now }
-    requires few { length ends.now ≤ 8 }
+    requires few { length ends.now ≤ most_arrivals }
     requires each { length arrivals.now ≡ length ends.now }
     requires points_each { length points.old ≡ length ends.now }
     requires arrivals_in { All IsArrival arrivals.now }
     ensures state { result ≡ reservoir_state head arrivals.now }
     ensures points { points.new ≡ points_of result ends.now (reservoir_flows head arrivals.now) }
 {
-    let mut flows = [0i64; 8];
+    let mut flows = [0i64; MOST_ENDS];
     let flows = &mut flows[..ends.len()];
     let state = reservoir(head, arrivals, flows);
     end_points(&state, ends, flows, points);
@@ -211,14 +213,14 @@ fn junction_law(
     requires demand_in { IsFlow demand }
     requires own_in { IsState own.now }
     requires some { 0 < length ends.now }
-    requires few { length ends.now ≤ 8 }
+    requires few { length ends.now ≤ most_arrivals }
     requires each { length arrivals.now ≡ length ends.now }
     requires points_each { length points.old ≡ length ends.now }
     requires arrivals_in { All IsArrival arrivals.now }
     ensures state { result ≡ junction_state rule.now demand own.now arrivals.now }
     ensures points { points.new ≡ points_of result ends.now (junction_flows rule.now demand own.now arrivals.now) }
 {
-    let mut flows = [0i64; 8];
+    let mut flows = [0i64; MOST_ENDS];
     let flows = &mut flows[..ends.len()];
     let state = junction(rule, demand, own, arrivals, flows);
     end_points(&state, ends, flows, points);
@@ -242,7 +244,7 @@ fn discharge_law(
     requires each { length arrivals.now ≡ length ends.now }
     requires points_each { length points.old ≡ length ends.now }
     requires arrivals_in { All IsArrival arrivals.now }
-    requires valve_in { IsOrifice (sole arrivals.now).b valve.now.q0 valve.now.h0 }
+    requires valve_in { IsValve valve.now.q0 valve.now.h0 }
     ensures state { result ≡ discharge_state rule.now valve.now opening own.now (sole arrivals.now) }
     ensures points { points.new ≡ points_of result ends.now (discharge_flow rule.now valve.now opening own.now (sole arrivals.now) ∷ []) }
 {
@@ -266,7 +268,7 @@ fn discharge_end(
     requires opening_in { IsWithin (pos 0) (pos 1_000_000) opening }
     requires own_in { IsState own.now }
     requires arrival_in { IsArrival arrival.now }
-    requires valve_in { IsOrifice arrival.now.b valve.now.q0 valve.now.h0 }
+    requires valve_in { IsValve valve.now.q0 valve.now.h0 }
     requires one { length flows.old ≡ 1 }
     ensures state { result ≡ discharge_state rule.now valve.now opening own.now arrival.now }
     ensures flow { flows.new ≡ discharge_flow rule.now valve.now opening own.now arrival.now ∷ [] }
@@ -296,7 +298,7 @@ fn inline_law(
     requires each { length arrivals.now ≡ length ends.now }
     requires points_each { length points.old ≡ length ends.now }
     requires arrivals_in { All IsArrival arrivals.now }
-    requires valve_in { IsOrifice ((side_one ends.now arrivals.now).b +ℤ (side_two ends.now arrivals.now).b) q0 h0 }
+    requires valve_in { IsValve q0 h0 }
     ensures state { result ≡ through_state (inline_through q0 h0 opening (side_one ends.now arrivals.now) (side_two ends.now arrivals.now)) }
     ensures points { points.new ≡ through_points (inline_through q0 h0 opening (side_one ends.now arrivals.now) (side_two ends.now arrivals.now)) ends.now }
 {
@@ -340,14 +342,14 @@ fn tank_law(
     requires area_in { IsWithin (pos 1) (pos 1_000_000_000) area }
     requires own_in { IsState own.now }
     requires some { 0 < length ends.now }
-    requires few { length ends.now ≤ 8 }
+    requires few { length ends.now ≤ most_arrivals }
     requires each { length arrivals.now ≡ length ends.now }
     requires points_each { length points.old ≡ length ends.now }
     requires arrivals_in { All IsArrival arrivals.now }
     ensures state { result ≡ tank_state dt area own.now arrivals.now }
     ensures points { points.new ≡ points_of result ends.now (tank_flows dt area own.now arrivals.now) }
 {
-    let mut flows = [0i64; 8];
+    let mut flows = [0i64; MOST_ENDS];
     let flows = &mut flows[..ends.len()];
     let state = tank(dt, area, own, arrivals, flows);
     end_points(&state, ends, flows, points);
@@ -366,14 +368,14 @@ fn vessel_law(
     requires gas_in { IsTableOf Gas case.now.tables gas }
     requires own_in { IsState own.now }
     requires some { 0 < length ends.now }
-    requires few { length ends.now ≤ 8 }
+    requires few { length ends.now ≤ most_arrivals }
     requires each { length arrivals.now ≡ length ends.now }
     requires points_each { length points.old ≡ length ends.now }
     requires arrivals_in { All IsArrival arrivals.now }
     ensures state { result ≡ vessel_state case.now.dt (table_at case.now gas).points own.now arrivals.now }
     ensures points { points.new ≡ points_of result ends.now (vessel_flows case.now.dt (table_at case.now gas).points own.now arrivals.now) }
 {
-    let mut flows = [0i64; 8];
+    let mut flows = [0i64; MOST_ENDS];
     let flows = &mut flows[..ends.len()];
     let gas = case.tables.as_slice()[gas as usize].points.as_slice();
     let state = vessel(case.dt, gas, own, arrivals, flows);

@@ -1,17 +1,16 @@
+//! The hydraulics of a case as a law.
 ghost use Rattle.std.specs.Prelude.{◌≡◌, ◌<◌, ◌≤◌, ℕ, false, length};
-ghost use Rattle.case_model.specs.Division.{mesh_of};
-ghost use Rattle.case_model.specs.Limits.{IsRead};
-ghost use Rattle.case_model.specs.Mesh.{IsMesh, reaches, ends_of};
+ghost use Rattle.case_model.specs.Accepted.{IsAccepted};
+ghost use Rattle.case_model.specs.Mesh.{reaches, ends_of};
 ghost use Rattle.case_model.specs.Places.{is_bad, is_bad_state};
-ghost use Rattle.case_model.specs.Refusals.{passes};
-ghost use Rattle.case_model.specs.Sets.{AreEmpty};
+ghost use Rattle.junctions.specs.Sums.{most_arrivals};
 ghost use Rattle.scheme.specs.Computable.{IsComputable};
 ghost use Rattle.scheme.specs.Laws.{meaning_of};
 ghost use Rattle.scheme.specs.LawRange.{meaning_of-good};
 ghost use Rattle.scheme.specs.Starts.{start_point, start_node};
 ghost use Rattle.scheme.specs.ReadProps.{IsComputable-prop};
 
-use crate::interior::inner_law;
+use crate::interior::{self, At, inner_law};
 use crate::node_laws::node_law;
 use crate::starts;
 use case_model::{Case, Law, Mesh, NodeState, Point};
@@ -27,12 +26,9 @@ pub struct Physics<'a> {
 impl<'a> Physics<'a> {
     /// The law of a case over its mesh, whose start is Good everywhere. Takes no memory.
     pub fn over(case: &'a Case, mesh: &'a Mesh) -> Physics<'a>
-        requires read { IsRead case.now }
-        requires same { mesh.now ≡ mesh_of case.now }
-        requires accepted { AreEmpty (passes case.now) }
-        requires good { IsMesh mesh.now }
+        requires accepted { IsAccepted case.now mesh.now }
         ensures meaning { ⟦<Physics<'a> as Law>⟧.meaning result ≡ meaning_of case.now mesh.now }
-        ensures ends { (k : ℕ) → k < length mesh.now.ends → length (ends_of mesh.now k) ≤ 8 }
+        ensures ends { (k : ℕ) → k < length mesh.now.ends → length (ends_of mesh.now k) ≤ most_arrivals }
         ensures fits { (⟦<Physics<'a> as Law>⟧.meaning result).mesh ≡ mesh.now }
         ensures good_places { (p i : ℕ) → p < length mesh.now.pipes → i ≤ reaches mesh.now p → is_bad (start_point case.now mesh.now p i) ≡ false }
         ensures good_nodes { (k : ℕ) → k < length mesh.now.ends → is_bad_state (start_node case.now mesh.now k) ≡ false }
@@ -46,7 +42,11 @@ impl<'a> Law for Physics<'a> {
 
     #[tactic(auto, unfolding(crate::specs::Laws::meaning_of))]
     fn inner(&self, pipe: u32, place: u32, left: &Point, own: &Point, right: &Point) -> Point {
-        inner_law(self.case, self.mesh, pipe, place, left, own, right)
+        inner_law(self.case, self.mesh, At { pipe, place }, left, own, right)
+    }
+
+    fn inner_run(&self, pipe: u32, first: u32, before: &[Point], now: &mut [Point]) {
+        interior::inner_run(self.case, self.mesh, pipe, first, before, now)
     }
 
     #[tactic(auto, unfolding(crate::specs::Laws::meaning_of))]

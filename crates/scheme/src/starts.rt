@@ -1,9 +1,11 @@
+//! What stands at step 0.
 ghost use Rattle.std.specs.Prelude.{◌≡◌, ◌<◌, ◌≤◌, ◌*◌, true, false, unsigned_abs, length, All};
 ghost use Rattle.case_model.specs.declared.cases.TableKind.TheVariants.{Gas};
 ghost use Rattle.fixed_num.specs.Tables.{interp as interpolated};
 ghost use Rattle.case_model.specs.Limits.{IsHead, IsEntry, IsInOrder, IsKind, IsRead, IsTableOf};
 ghost use Rattle.case_model.specs.Mesh.{reaches as reaches_of};
 ghost use Rattle.case_model.specs.Parts.{node_at, pipe_at, table_at};
+ghost use Rattle.junctions.specs.Sums.{most_arrivals};
 ghost use Rattle.scheme.specs.Computable.{IsComputable};
 ghost use Rattle.scheme.specs.Ends.{along as along_end};
 ghost use Rattle.scheme.specs.Starts.{
@@ -128,7 +130,7 @@ fn start_volume(kind: &NodeKind) -> i64
 
 fn start_growth(case: &Case, kind: &NodeKind, ends: &[End]) -> i128
     requires read { IsRead case.now }
-    requires few { length ends.now ≤ 8 }
+    requires few { length ends.now ≤ most_arrivals }
     requires ends_in { All (λ e. e.pipe < length case.now.pipes) ends.now }
     ensures { result ≡ growth_of case.now kind.now ends.now }
 {
@@ -145,7 +147,7 @@ fn start_growth(case: &Case, kind: &NodeKind, ends: &[End]) -> i128
 
 fn start_inflow(case: &Case, ends: &[End]) -> i128
     requires read { IsRead case.now }
-    requires few { length ends.now ≤ 8 }
+    requires few { length ends.now ≤ most_arrivals }
     requires ends_in { All (λ e. e.pipe < length case.now.pipes) ends.now }
     ensures { result ≡ inflow_of case.now ends.now }
 {

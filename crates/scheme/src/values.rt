@@ -1,3 +1,4 @@
+//! Numbers that are fixed or follow a time table, and the rule of a cavity.
 ghost use Rattle.std.specs.Prelude.{◌≡◌, ◌<◌, ◌≤◌, ◌*◌, min, ℤ, pos, ◌*ℤ◌, ◌≤ℤ◌, unsigned_abs, length, All};
 ghost use Rattle.fixed_num.specs.Tables.{IsBetween, interp as interpolated};
 ghost use Rattle.case_model.specs.declared.cases.TableKind.TheVariants.{Heads, Flows, Openings, Speeds};

@@ -1,18 +1,18 @@
 -- The answer to what was read of an input.
-use Rattle.std.proofs.Common.{◌≡◌, ◌<◌, ◌⊎◌, ℕ, true, false, List, ◌++◌, length, Option, Some, None, Err, refl, sym, ap, ◌∙◌, subst, arith, inl, inr, length-append}
+use Rattle.std.proofs.Common.{◌≡◌, ◌<◌, ◌⊎◌, ℕ, Bool, true, false, List, ◌++◌, length, Option, Some, None, Result, Ok, Err, refl, sym, ap, ap₂, ◌∙◌, subst, arith, inl, inr, length-append}
 use Rattle.std.proofs.lemmas.List.{append-nil}
 use Rattle.std.proofs.lemmas.Bool.{lt-ltb}
-use Rattle.std.specs.Prelude.{IfSome}
-use Rattle.surge_io.specs.Bytes.{IsReading, HasRead}
+use Rattle.std.specs.Prelude.{IfSome, if◌then◌else◌}
+use Rattle.surge_io.specs.Bytes.{IsReading}
+use Rattle.command_words.specs.declared.job.Command.{Command}
+use Rattle.command_words.specs.declared.job.Command.TheVariants.{Check, Mesh as MeshCommand, Rounds, Run, Drill, Upgrade}
 use Rattle.command_words.specs.declared.job.Job.{Job}
 use Rattle.command_words.specs.CommandLine.{job_of}
 use Rattle.netfile.specs.Verdict.{verdict}
-use Rattle.surge_top.specs.Answer.{Answer, answer, answer_to, usage, reads, job_reads, are_read}
-use Rattle.surge_top.specs.Status.{IsAnswered, number_of}
-use Rattle.surge_top.specs.declared.status.Status.{Status}
-use Rattle.surge_top.specs.declared.status.Status.TheVariants.{Done, Refused, Words, Range, ReadFault, WriteFault, Memory}
+use Rattle.surge_top.specs.Answer.{Answer, answer, answer_by, answer_to, computed, usage, reads, job_reads, are_read}
 use Rattle.case_model.specs.declared.cases.Case.{Case}
 use Rattle.case_model.specs.declared.meshes.Mesh.{Mesh}
+use Rattle.case_model.specs.FirstFault.{first_fault}
 use Rattle.case_model.specs.Search.{Refusal}
 use Rattle.scheme.specs.Laws.{meaning_of}
 
@@ -32,7 +32,7 @@ pub for_taken : (left : Option (List ℕ)) (job : Job) (taken : List ℕ) (P : A
 for_taken None job taken P r p = tt
 for_taken (Some bytes) job taken P r p = subst P (ap (answer_to job) (same_verdict taken bytes r)) p
 
-answer_read : (words : List (List ℕ)) (job : Job) (bytes : List ℕ) → job_of words ≡ Some job → reads job.command ≡ true → answer_to job (verdict bytes) ≡ answer words bytes
+pub answer_read : (words : List (List ℕ)) (job : Job) (bytes : List ℕ) → job_of words ≡ Some job → reads job.command ≡ true → answer_to job (verdict bytes) ≡ answer words bytes
 unfolding answer
 answer_read words job bytes w r = rw (w, r) refl
 
@@ -65,27 +65,39 @@ read_words words job w = rw w refl
 pub unread_words : (words : List (List ℕ)) → job_of words ≡ None → are_read words ≡ false
 unread_words words w = rw w refl
 
-pub for_any : (left : Option (List ℕ)) (P : List ℕ → Type 0) → ((bytes : List ℕ) → P bytes) → IfSome left P
-for_any None P p = tt
-for_any (Some bytes) P p = p bytes
+-- the answer to a text is never that to refused words
+pub not_usage : (job : Job) (told : Result (Case × Mesh) Refusal) → reads job.command ≡ true → (answer_to job told).status ≡ 2 → ⊥
+not_usage job (Err refusal) r e = cc
+not_usage job (Ok accepted) r e = by_command job.command job.window accepted.0 accepted.1 r e
+  where
+    computed_status : (case : Case) (mesh : Mesh) (fault : Option (ℕ × ℕ)) → (computed case mesh fault).status ≡ 2 → ⊥
+    computed_status case mesh (Some fault) e = cc
+    computed_status case mesh None e = cc
+    by_command : (command : Command) (wish : ℕ) (case : Case) (mesh : Mesh) → reads command ≡ true → (answer_by command wish case mesh).status ≡ 2 → ⊥
+    by_command Check wish case mesh r e = cc
+    by_command MeshCommand wish case mesh r e = cc
+    by_command Rounds wish case mesh r e = computed_status case mesh (first_fault (meaning_of case mesh) case.steps) e
+    by_command Run wish case mesh r e = cc
+    by_command Drill wish case mesh r e = cc
+    by_command Upgrade wish case mesh r e = cc
 
--- the law of a case fits its mesh
-pub mesh_fits : (case : Case) (mesh : Mesh) → (meaning_of case mesh).mesh ≡ mesh
-unfolding meaning_of
-mesh_fits case mesh = refl
+-- what a command answers to an accepted case hangs on the wish of `mesh` alone
+same_by : (command : Command) (wish other : ℕ) (case : Case) (mesh : Mesh) → (command ≡ MeshCommand → other ≡ wish) → answer_by command other case mesh ≡ answer_by command wish case mesh
+same_by Check wish other case mesh e = refl
+same_by MeshCommand wish other case mesh e = ap (λ (w : ℕ). answer_by MeshCommand w case mesh) (e refl)
+same_by Rounds wish other case mesh e = refl
+same_by Run wish other case mesh e = refl
+same_by Drill wish other case mesh e = refl
+same_by Upgrade wish other case mesh e = refl
 
--- a status that is no fault and no want of memory is that of the answer
-pub complete_from : {A B X : Type 0} (s : Status) (n : ℕ) → (s ≡ ReadFault → ⊥) → (IsAnswered s → X × (number_of s ≡ n)) → (s ≡ WriteFault → B) → (A ⊎ B) ⊎ ((s ≡ Memory) ⊎ (number_of s ≡ n))
-complete_from Done n r a w = inr (inr (a tt).1)
-complete_from Refused n r a w = inr (inr (a tt).1)
-complete_from Words n r a w = inr (inr (a tt).1)
-complete_from Range n r a w = inr (inr (a tt).1)
-complete_from ReadFault n r a w = absurd (r refl)
-complete_from WriteFault n r a w = inl (inr (w refl))
-complete_from Memory n r a w = inr (inl refl)
+same_to : (command : Command) (job other : Job) (told : Result (Case × Mesh) Refusal) → job.command ≡ command → other.command ≡ command → (command ≡ MeshCommand → other.window ≡ job.window)
+    → answer_to other told ≡ answer_to job told
+same_to command job other (Err refusal) k l e = refl
+same_to command job other (Ok accepted) k l e = rw (k, l) (same_by command job.window other.window accepted.0 accepted.1 e)
 
--- what was read of a source is all that it had, or more than the limit
-pub read_of : (left now : Option (List ℕ)) (taken : List ℕ) → IfSome left (IsReading 8_388_608 taken) → HasRead left now taken →
-    IfSome left (λ bytes. (read : List ℕ) × IsReading 8_388_608 read bytes × HasRead left now read)
-read_of None now taken r h = tt
-read_of (Some bytes) now taken r h = (taken, r, h)
+-- jobs of one command have one answer, where they wish for one window or the command isn't `mesh`
+pub same_answer : (words others : List (List ℕ)) (bytes : List ℕ) (job other : Job) → job_of words ≡ Some job → job_of others ≡ Some other → other.command ≡ job.command
+    → (job.command ≡ MeshCommand → other.window ≡ job.window) → answer others bytes ≡ answer words bytes
+unfolding answer
+same_answer words others bytes job other w o k e =
+    rw (w, o) (ap₂ (λ (b : Bool) (a : Answer). if b then a else usage) (ap reads k) (same_to job.command job other (verdict bytes) refl k e))

@@ -11,14 +11,15 @@ use Rattle.case_model.specs.FirstFault.{first_fault}
 use Rattle.case_model.specs.Meaning.{Meaning}
 use Rattle.case_model.specs.Mesh.{IsNumbered}
 use Rattle.case_model.specs.Parts.{no_probe, probe_at}
+use Rattle.case_model.specs.PlaceNumbers.{IsOn, number_of}
 use Rattle.case_model.specs.Samples.{Sample, sample}
 use Rattle.envelope.specs.CellLaws.{within-first}
 use Rattle.envelope.specs.Cells.{IsRising, end_of_span}
-use Rattle.envelope.specs.Folds.{Stands, IsFoldOf, IsSameFold, steps_of}
+use Rattle.envelope.specs.Folds.{Stands, IsFoldOf, IsSameFold, spans_of, steps_of}
 use Rattle.envelope.specs.Kept.{extreme_kept, sample_kept}
 use Rattle.envelope.specs.Lines.{AreWithin}
 use Rattle.envelope.specs.RowFolds.{HasRows, IsFoldOfCase, probe_numbers}
-use Rattle.envelope.specs.Rows.{number_of, IsOn, rows_noted, extreme_at}
+use Rattle.envelope.specs.Rows.{rows_noted, extreme_at}
 use Rattle.envelope.specs.declared.extremes.Extreme.{Extreme}
 use Rattle.envelope.specs.declared.folds.Fold.{Fold}
 use Rattle.case_model.specs.Accepted.{IsAccepted}
@@ -27,7 +28,6 @@ use Rattle.report.specs.Reportable.{IsReportable}
 use Rattle.surge_top.specs.Sizes.{IsSmall}
 use Rattle.surge_top.specs.declared.status.Status.{Status}
 use Rattle.surge_top.specs.declared.status.Status.TheVariants.{WriteFault}
-use Rattle.surge_top.proofs.Fitting.{all_pipes}
 
 -- ---- the fold that is made
 
@@ -57,7 +57,7 @@ pub reportable : (case : Case) (mesh : Mesh) (fold : Fold) → IsAccepted case m
 reportable case mesh fold a small on given = record {
   sized = record { same_nodes = small.same_nodes; same_pipes = small.same_pipes; few_nodes = a.read.few_nodes; few_pipes = a.read.few_pipes };
   some_pipes = a.some;
-  over = record { numbered = a.numbered; few_places = small.numbers; whole = given.spans_are };
+  over = record { numbered = a.numbered; few_places = small.numbers; whole = λ k h. within-first (spans_of fold) mesh.places k given.spans_are h };
   same_probes = few_numbers case mesh fold.probes.items given.probes_are;
   same_steps = given.steps_are;
   same_every = given.every_is;
@@ -81,21 +81,21 @@ TextLaw = (case : Case) (mesh : Mesh) (e f : ProbeAt → Extreme) (s t : ℕ →
 -- the report of what a fold keeps is that of the rows, on one mesh
 abbrev IsText : Meaning → Case → Fold → Mesh → Type 0
 IsText law case fold mesh =
-    IsAccepted case mesh → All (λ probe. IsOn mesh probe.at) case.probes → IsFoldOf ((0, mesh.places) ∷ []) (probe_numbers mesh case) case.steps case.every fold
+    IsAccepted case mesh → IsSmall case mesh → All (λ probe. IsOn mesh probe.at) case.probes → IsFoldOf ((0, mesh.places) ∷ []) (probe_numbers mesh case) case.steps case.every fold
     → report_text case mesh (λ at. extreme_kept fold (number_of mesh at)) (sample_kept fold) ≡ report_text case mesh (extreme_at law case.steps) (λ j step. sample law case (probe_at case j).at step)
 
 text_over : (law : Meaning) (case : Case) (fold : Fold) → ExtremeLaw → SampleLaw → TextLaw → Stands fold (rows_noted law) → first_fault law case.steps ≡ None → IsText law case fold law.mesh
-text_over law case fold extremes samples text told clear a on given =
+text_over law case fold extremes samples text told clear a small on given =
     let rows : HasRows law fold = record { numbered = a.numbered; spans = given.spans_are; stands = told } in
     let over : IsFoldOfCase law case fold = record { steps = given.steps_are; every = given.every_is; probes = given.probes_are; on = λ j h. on j no_probe h } in
     let e = given.steps_are in
     text case law.mesh (λ at. extreme_kept fold (number_of law.mesh at)) (extreme_at law case.steps) (sample_kept fold) (λ j step. sample law case (probe_at case j).at step)
-    (let n = all_pipes case law.mesh a.divided in let s = a.some in omega arith)
+    (omega (arith, small.same_pipes, a.some))
     (λ at h. extremes law fold at rows (subst (λ n. first_fault law n ≡ None) (sym e) clear) h ∙ ap (λ n. extreme_at law n at) e)
     (λ j step h l m. samples law case fold j step rows over h)
 
 pub text_is : (law : Meaning) (case : Case) (mesh : Mesh) (fold : Fold) → law.mesh ≡ mesh → ExtremeLaw → SampleLaw → TextLaw → Stands fold (rows_noted law) → first_fault law case.steps ≡ None
-    → IsAccepted case mesh → All (λ probe. IsOn mesh probe.at) case.probes → IsFoldOf ((0, mesh.places) ∷ []) (probe_numbers mesh case) case.steps case.every fold
+    → IsAccepted case mesh → IsSmall case mesh → All (λ probe. IsOn mesh probe.at) case.probes → IsFoldOf ((0, mesh.places) ∷ []) (probe_numbers mesh case) case.steps case.every fold
     → report_text case mesh (λ at. extreme_kept fold (number_of mesh at)) (sample_kept fold) ≡ report_text case mesh (extreme_at law case.steps) (λ j step. sample law case (probe_at case j).at step)
 text_is law case mesh fold e extremes samples text told clear = subst (IsText law case fold) e (text_over law case fold extremes samples text told clear)
 

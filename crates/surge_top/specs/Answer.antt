@@ -1,5 +1,5 @@
 -- The answer: what the program prints for its words and its input, and the number of its status.
-use Rattle.std.specs.Prelude.{ℕ, Bool, true, false, Option, Some, None, Result, Ok, Err, if◌then◌else◌, List}
+use Rattle.std.specs.Prelude.{◌≡◌, ℕ, Bool, true, false, Option, Some, None, Result, Ok, Err, if◌then◌else◌, List}
 use Rattle.case_model.specs.declared.cases.Case.{Case}
 use Rattle.case_model.specs.declared.meshes.Mesh.{Mesh}
 use Rattle.case_model.specs.Parts.{probe_at}
@@ -7,7 +7,8 @@ use Rattle.case_model.specs.Samples.{sample}
 use Rattle.case_model.specs.FirstFault.{first_fault}
 use Rattle.case_model.specs.Search.{Refusal}
 use Rattle.command_words.specs.declared.job.Command.{Command}
-use Rattle.command_words.specs.declared.job.Command.TheVariants.{Check, Mesh as MeshCommand, Rounds, Run, Drill}
+use Rattle.case_writing.specs.CaseText.{case_text, upgraded}
+use Rattle.command_words.specs.declared.job.Command.TheVariants.{Check, Mesh as MeshCommand, Rounds, Run, Drill, Upgrade}
 use Rattle.command_words.specs.declared.job.Job.{Job}
 use Rattle.command_words.specs.CommandLine.{job_of}
 use Rattle.envelope.specs.Rows.{extreme_at}
@@ -32,24 +33,29 @@ refused number line = record { text = refusal_text number line; status = 1 }
 -- the report of an accepted case: over its rows of the steps 0 to the last
 unfoldable pub rows_text : Case → Mesh → List ℕ
 rows_text case mesh =
-    report_text case mesh (extreme_at (meaning_of case mesh) case.steps) (λ j step. sample (meaning_of case mesh) case (probe_at case j).at step)
+    report_text case mesh (extreme_at (meaning_of case mesh) case.steps)
+    (λ j step. sample (meaning_of case mesh) case (probe_at case j).at step)
 
 -- of an accepted case: the first fault up to the last step, or else its report
 abbrev pub computed : Case → Mesh → Option (ℕ × ℕ) → Answer
-computed case mesh (Some fault) = record { text = range_text case mesh fault.0 fault.1; status = 3 }
+computed case mesh (Some fault) =
+    record { text = range_text case mesh fault.0 fault.1; status = 3 }
 computed case mesh None = record { text = rows_text case mesh; status = 0 }
 
 -- the mesh of an accepted case, cut for windows of at most so many steps
 abbrev pub cut : Case → Mesh → ℕ → Answer
-cut case mesh wish = record { text = mesh_text case mesh (layout_of case.steps mesh wish); status = 0 }
+cut case mesh wish =
+    record { text = mesh_text case mesh (layout_of case.steps mesh wish); status = 0 }
 
 -- what a command answers to an accepted case, where windows of at most so many steps are wished for
 abbrev pub answer_by : Command → ℕ → Case → Mesh → Answer
 answer_by Check wish case mesh = record { text = accepted_text; status = 0 }
 answer_by MeshCommand wish case mesh = cut case mesh wish
-answer_by Rounds wish case mesh = computed case mesh (first_fault (meaning_of case mesh) case.steps)
+answer_by Rounds wish case mesh =
+    computed case mesh (first_fault (meaning_of case mesh) case.steps)
 answer_by Run wish case mesh = usage
 answer_by Drill wish case mesh = usage
+answer_by Upgrade wish case mesh = record { text = case_text (upgraded case); status = 0 }
 
 abbrev pub answer_case : Job → Case → Mesh → Answer
 answer_case job case mesh = answer_by job.command job.window case mesh
@@ -66,6 +72,7 @@ reads MeshCommand = true
 reads Rounds = true
 reads Run = false
 reads Drill = false
+reads Upgrade = true
 
 -- whether words, by the job that they name, have the input read
 abbrev pub job_reads : Option Job → Bool
@@ -82,3 +89,8 @@ answer_job None bytes = usage
 -- the answer to these words and this input
 unfoldable pub answer : List (List ℕ) → List ℕ → Answer
 answer words bytes = answer_job (job_of words) bytes
+
+-- the words name this job, and the text is accepted and means this case and this mesh
+pub record Says (words : List (List ℕ)) (bytes : List ℕ) (job : Job) (case : Case) (mesh : Mesh) : Type 0 where
+  pub named : job_of words ≡ Some job
+  pub meant : verdict bytes ≡ Ok (case, mesh)

@@ -1,32 +1,31 @@
 //! What `mesh` does with an accepted case: it cuts the mesh into strands and regions.
-ghost use Rattle.std.specs.Prelude.{◌≡◌, ◌≤◌, ◌≢◌, length};
-ghost use Rattle.surge_io.specs.Bytes.{Appends, AppendsFront};
-ghost use Rattle.surge_io.specs.Faults.{Rose};
+ghost use Rattle.std.specs.Prelude.{◌≡◌, ◌≤◌, ◌≢◌};
 ghost use Rattle.case_model.specs.Accepted.{IsAccepted};
-ghost use Rattle.regions.specs.Cuts.{IsLimited};
+ghost use Rattle.regions.specs.LaidOut.{IsLaidOut};
 ghost use Rattle.regions.specs.declared.shapes.Layout.{Layout as LayoutSeen};
 ghost use Rattle.report.specs.MeshText.{IsMeshed};
+ghost use Rattle.surge_io.specs.Bytes.{Appends, AppendsFront};
+ghost use Rattle.surge_io.specs.Faults.{Rose};
 ghost use Rattle.surge_top.specs.Answer.{cut as cut_of};
 ghost use Rattle.surge_top.specs.Status.{number_of, IsAnswered};
 
 use crate::status::Status;
 use crate::top::ended;
-use case_model::{Case, Mesh};
-use regions::layout;
+use case_model::{Case, Mesh, accepted_cases_are_kept};
+use regions::{WIDEST_WINDOW, layout, layouts_are_sound};
 use report::write_mesh;
 use std::alloc::{AllocError, Global};
 use surge_io::Sink;
 
-/// An accepted case and its mesh are within the limits of a layout and of its text.
+// An accepted case, its mesh and a cut of that are within the limits of their text.
 fn limits(case: &Case, mesh: &Mesh)
     requires { IsAccepted case.now mesh.now }
-    ensures some_steps { 1 ≤ case.now.steps }
-    ensures few_steps { case.now.steps ≤ 100_000_000 }
-    ensures limited { IsLimited mesh.now }
-    ensures meshed { (layout : LayoutSeen) → layout.windows ≤ 100_000_000 → length layout.shapes ≤ 1_000_000 → IsMeshed case.now mesh.now layout }
+    ensures { (layout : LayoutSeen) → IsLaidOut layout mesh.now → IsMeshed case.now mesh.now layout }
 {
     let _ = case;
     let _ = mesh;
+    accepted_cases_are_kept();
+    layouts_are_sound();
 }
 
 /// Writes how the mesh of an accepted case is cut, with windows of at most `wish` steps.
@@ -39,10 +38,12 @@ pub(crate) fn cut<K: Sink>(
 ) -> Status
     requires accepted { IsAccepted case.now mesh.now }
     requires some { 1 ≤ wish }
-    requires few { wish ≤ 64 }
-    ensures answer { IsAnswered result → Appends (K.held out.old) (K.held out.new) (cut_of case.now mesh.now wish).text
-        × (number_of result ≡ (cut_of case.now mesh.now wish).status) }
-    ensures front { result ≡ Status.WriteFault → AppendsFront (K.held out.old) (K.held out.new) (cut_of case.now mesh.now wish).text }
+    requires few { wish ≤ WIDEST_WINDOW }
+    ensures answer { let told = cut_of case.now mesh.now wish in
+        IsAnswered result →
+        Appends (K.held out.old) (K.held out.new) told.text × (number_of result ≡ told.status) }
+    ensures front { let told = cut_of case.now mesh.now wish in
+        result ≡ Status.WriteFault → AppendsFront (K.held out.old) (K.held out.new) told.text }
     ensures unwritten { result ≡ Status.Memory → K.held out.new ≡ K.held out.old }
     ensures read { result ≢ Status.ReadFault }
     ensures cause { result ≡ Status.WriteFault → Rose (K.faults out.old) (K.faults out.new) }

@@ -1,20 +1,21 @@
 //! The fold of a run, which keeps what its report tells, and the report of the rows that it was told.
-ghost use Rattle.std.specs.Prelude.{◌≡◌, ◌≤◌, ◌<◌, [], ◌∷◌, length, IfOk, OnOk, OnErr, None};
+ghost use Rattle.std.specs.Prelude.{◌≡◌, ◌≤◌, [], ◌∷◌, IfOk, OnOk, OnErr, None};
 ghost use Rattle.std.specs.List.{All};
+ghost use Rattle.case_model.specs.Accepted.{IsAccepted};
 ghost use Rattle.case_model.specs.FirstFault.{first_fault};
 ghost use Rattle.case_model.specs.Mesh.{IsNumbered};
+ghost use Rattle.case_model.specs.PlaceNumbers.{IsOn};
 ghost use Rattle.envelope.specs.Folds.{IsFoldOf, Stands};
 ghost use Rattle.envelope.specs.Notings.{nothing};
 ghost use Rattle.envelope.specs.RowFolds.{probe_numbers as numbers_of};
-ghost use Rattle.envelope.specs.Rows.{IsOn, number_of, rows_noted};
-ghost use Rattle.case_model.specs.Accepted.{IsAccepted};
+ghost use Rattle.envelope.specs.Rows.{rows_noted};
 ghost use Rattle.scheme.specs.Laws.{meaning_of};
 ghost use Rattle.surge_io.specs.Bytes.{Appends, AppendsFront};
 ghost use Rattle.surge_io.specs.Faults.{Rose};
 ghost use Rattle.surge_top.specs.Answer.{rows_text};
 
 use crate::computing::sizes;
-use case_model::{Case, Mesh, ProbeAt};
+use case_model::{Case, Mesh, place_number};
 use envelope::{Fold, folds_tell_rows, numbers_tell_places};
 use report::{report_is_of_its_numbers, write_report};
 use std::alloc::{AllocError, Global};
@@ -24,7 +25,8 @@ use surge_io::{Failed, Sink};
 /// want of memory.
 pub(crate) fn fold_over(alloc: Global, case: &Case, mesh: &Mesh) -> Result<Fold, AllocError>
     requires accepted { IsAccepted case.now mesh.now }
-    ensures given { IfOk result (λ fold. IsFoldOf ((0, mesh.now.places) ∷ []) (numbers_of mesh.now case.now) case.now.steps case.now.every fold) }
+    ensures given { let probes = numbers_of mesh.now case.now in IfOk result (λ fold.
+        IsFoldOf ((0, mesh.now.places) ∷ []) probes case.now.steps case.now.every fold) }
     ensures fresh { IfOk result (λ fold. Stands fold nothing) }
 {
     sizes(case, mesh);
@@ -33,7 +35,7 @@ pub(crate) fn fold_over(alloc: Global, case: &Case, mesh: &Mesh) -> Result<Fold,
     Fold::make(alloc, &[(0, mesh.places)], &probes, case.steps, case.every)
 }
 
-/// The place numbers of the probes, in file order.
+// The place numbers of the probes, in file order.
 fn probe_numbers(alloc: Global, case: &Case, mesh: &Mesh) -> Result<Vec<u64>, AllocError>
     requires on { All (λ probe. IsOn mesh.now probe.at) case.now.probes }
     requires numbered { IsNumbered mesh.now }
@@ -48,20 +50,6 @@ fn probe_numbers(alloc: Global, case: &Case, mesh: &Mesh) -> Result<Vec<u64>, Al
     Ok(numbers)
 }
 
-fn place_number(mesh: &Mesh, at: ProbeAt) -> u64
-    requires on { IsOn mesh.now at }
-    requires numbered { IsNumbered mesh.now }
-    requires few { mesh.now.places ≤ 400_000 }
-    ensures { result ≡ number_of mesh.now at }
-{
-    match at {
-        ProbeAt::OnPipe { pipe, place } => {
-            mesh.pipes.as_slice()[pipe as usize].base + place as u64
-        }
-        ProbeAt::OnNode { node } => node as u64,
-    }
-}
-
 /// Writes the report of a fold that was told every row of an accepted case.
 pub(crate) fn write_rows<K: Sink>(
     case: &Case,
@@ -70,11 +58,14 @@ pub(crate) fn write_rows<K: Sink>(
     out: &mut K,
 ) -> Result<(), Failed>
     requires accepted { IsAccepted case.now mesh.now }
-    requires given { IsFoldOf ((0, mesh.now.places) ∷ []) (numbers_of mesh.now case.now) case.now.steps case.now.every fold.now }
+    requires given { let probes = numbers_of mesh.now case.now in
+        IsFoldOf ((0, mesh.now.places) ∷ []) probes case.now.steps case.now.every fold.now }
     requires told { Stands fold.now (rows_noted (meaning_of case.now mesh.now)) }
     requires clear { first_fault (meaning_of case.now mesh.now) case.now.steps ≡ None }
-    ensures all { OnOk result (Appends (K.held out.old) (K.held out.new) (rows_text case.now mesh.now)) }
-    ensures front { OnErr result (AppendsFront (K.held out.old) (K.held out.new) (rows_text case.now mesh.now)) }
+    ensures all { let text = rows_text case.now mesh.now in
+        OnOk result (Appends (K.held out.old) (K.held out.new) text) }
+    ensures front { let text = rows_text case.now mesh.now in
+        OnErr result (AppendsFront (K.held out.old) (K.held out.new) text) }
     ensures cause { OnErr result (Rose (K.faults out.old) (K.faults out.new)) }
     ensures later { K.faults out.old ≤ K.faults out.new }
 {

@@ -1,3 +1,4 @@
+//! How a run of the program ended, and the exit number of that.
 ghost use Rattle.std.specs.Prelude.{◌≡◌};
 /// How a run of the program ended.
 #[derive(Clone, Copy, Debug, PartialEq, Eq)]

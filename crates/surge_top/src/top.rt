@@ -1,19 +1,23 @@
-ghost use Rattle.std.specs.Prelude.{◌≡◌, ◌⊎◌, ◌<◌, ◌≤◌, ◌≢◌, ℕ, List as Items, map, length, true, false, Some, None, Ok, IfSome, MatchResult};
-ghost use Rattle.surge_io.specs.Bytes.{Appends, AppendsFront, IsReading, HasRead};
-ghost use Rattle.surge_io.specs.Faults.{Rose};
-ghost use Rattle.command_words.specs.CommandLine.{IsJob};
+//! The top call of `surge`: words and a case text in, the answer out, under the headline's clause.
+ghost use Rattle.std.specs.Prelude.{◌≡◌, ◌⊎◌, ◌≤◌, ◌≢◌, ℕ, List as Items, map, true, false};
+ghost use Rattle.std.specs.Prelude.{IfSome, MatchResult};
 ghost use Rattle.case_model.specs.Accepted.{IsAccepted};
+ghost use Rattle.command_words.specs.CommandLine.{IsJob};
 ghost use Rattle.netfile.specs.Verdict.{verdict};
-ghost use Rattle.surge_top.specs.Answer.{answer, answer_to, answer_case as answer_of, reads, are_read};
+ghost use Rattle.surge_io.specs.Bytes.{Appends, AppendsFront};
+ghost use Rattle.surge_io.specs.Faults.{Rose};
+ghost use Rattle.surge_top.specs.Answer.{answer, answer_to, answer_case as answer_of, are_read};
+ghost use Rattle.surge_top.specs.Answer.{reads, usage};
+ghost use Rattle.surge_top.specs.Outcome.{IsFront, IsInput, Tells};
 ghost use Rattle.surge_top.specs.Status.{number_of, IsAnswered};
 
 use crate::computing::rounds;
 use crate::cutting::cut;
 use crate::status::Status;
-use case_model::{Case, Mesh};
+use case_model::{Case, CaseFault, Mesh};
+use case_writing::write_upgraded;
 use command_words::{Command, Job, WordsFault, read_words};
 use netfile::{MOST_BYTES, read_case};
-use reaches::CaseFault;
 use report::{write_accepted, write_refusal, write_usage};
 use std::alloc::Global;
 use surge_io::{Failed, ReadFault, Sink, Source, whole};
@@ -21,42 +25,45 @@ use surge_io::{Failed, ReadFault, Sink, Source, whole};
 /// What the program does: judges its words, reads a case text from the source, and writes its
 /// answer to the sink.
 ///
-/// The answer is that of the definitions for these words and bytes, whatever the source and the sink
-/// do. A read fault comes only where the source's count of faults rose, a write fault only where the
-/// sink's did; want of memory is free, and comes before the first byte is written.
+/// The answer is that of the definitions for these words and for the bytes that were taken from the
+/// source, whatever the source and the sink are and do: all bytes up to the source's end, or one past
+/// the limit. A read fault comes only where the source's count of faults rose, a write fault only
+/// where the sink's did; want of memory is free, and comes before the first byte is written.
 pub fn surge_plain<R: AllocGlobal, S: Source, K: Sink>(
     rt: &R,
     words: &[&str],
     src: &mut S,
     out: &mut K,
 ) -> Status
-    // What was printed, where no fault is answered.
-    ensures answer { IfSome (S.left src.old) (λ bytes. IsAnswered result →
-        Appends (K.held out.old) (K.held out.new) (answer (map (λ w. w.now) words.now) bytes).text
-        × (number_of result ≡ (answer (map (λ w. w.now) words.now) bytes).status)) }
+    // Words that have the input read: the answer is that to the bytes that were taken.
+    ensures answer { let texts = map (λ w. w.now) words.now in
+        (are_read texts ≡ true) → (result ≢ Status.ReadFault) → (result ≢ Status.Memory) →
+        (bytes : Items ℕ) × IsInput S.gives S.left src.old src.new bytes
+        × Tells result (K.held out.old) (K.held out.new) (answer texts bytes) }
 
-    // What was printed, where one is.
-    ensures front { IfSome (S.left src.old) (λ bytes. result ≡ Status.WriteFault →
-        AppendsFront (K.held out.old) (K.held out.new) (answer (map (λ w. w.now) words.now) bytes).text) }
-    ensures unwritten { (result ≡ Status.ReadFault) ⊎ (result ≡ Status.Memory) → K.held out.new ≡ K.held out.old }
+    // Words that are refused, or whose command is not built yet: no byte is read.
+    ensures refused { let texts = map (λ w. w.now) words.now in
+        (are_read texts ≡ false) → (src.new ≡ src.old)
+        × ((result ≡ Status.Words) ⊎ (result ≡ Status.WriteFault) ⊎ (result ≡ Status.Memory))
+        × Tells result (K.held out.old) (K.held out.new) usage }
+    ensures words { (result ≡ Status.Words) → are_read (map (λ w. w.now) words.now) ≡ false }
 
-    // When a fault is answered.
+    // Where the source tells what it has left, the answer is that to all of it.
+    ensures known { let texts = map (λ w. w.now) words.now in
+        IfSome (S.left src.old) (λ bytes. Tells result (K.held out.old) (K.held out.new) (answer texts bytes)) }
+
+    // A read fault and want of memory: nothing is written, and no more is taken than for an answer.
+    ensures unwritten { (result ≡ Status.ReadFault) ⊎ (result ≡ Status.Memory) →
+        (K.held out.new ≡ K.held out.old)
+        × ((bytes : Items ℕ) × IsFront S.gives S.left src.old src.new bytes) }
+
+    // When a fault is answered, and that nothing else is: only want of memory is free.
     ensures read_fault { result ≡ Status.ReadFault → Rose (S.faults src.old) (S.faults src.new) }
     ensures write_fault { result ≡ Status.WriteFault → Rose (K.faults out.old) (K.faults out.new) }
     ensures read_later { S.faults src.old ≤ S.faults src.new }
     ensures write_later { K.faults out.old ≤ K.faults out.new }
-
-    // Words that are refused, or whose command is not built yet, leave the source as it was.
-    ensures words { (are_read (map (λ w. w.now) words.now) ≡ false) → (S.left src.new ≡ S.left src.old) × (S.faults src.new ≡ S.faults src.old)
-        × ((result ≡ Status.Words) ⊎ (result ≡ Status.WriteFault) ⊎ (result ≡ Status.Memory)) }
-
-    // Other words have the source read to its end, or one byte past the limit.
-    ensures read { (are_read (map (λ w. w.now) words.now) ≡ true) → (result ≢ Status.ReadFault) → (result ≢ Status.Memory) →
-        IfSome (S.left src.old) (λ bytes. (taken : Items ℕ) × IsReading 8_388_608 taken bytes × HasRead (S.left src.old) (S.left src.new) taken) }
-
-    // Where no count rises the status is that of the answer, or want of memory.
-    ensures complete { IfSome (S.left src.old) (λ bytes. (Rose (S.faults src.old) (S.faults src.new) ⊎ Rose (K.faults out.old) (K.faults out.new))
-        ⊎ ((result ≡ Status.Memory) ⊎ (number_of result ≡ (answer (map (λ w. w.now) words.now) bytes).status))) }
+    ensures complete { (Rose (S.faults src.old) (S.faults src.new) ⊎ Rose (K.faults out.old) (K.faults out.new))
+        ⊎ ((result ≡ Status.Memory) ⊎ IsAnswered result) }
 {
     match read_words(rt.alloc(), words) {
         Ok(job) if reads_input(job.command) => answer_input(rt.alloc(), job, src, out),
@@ -71,28 +78,26 @@ fn reads_input(command: Command) -> bool
     ensures { result ≡ reads command }
 {
     match command {
-        Command::Check | Command::Mesh | Command::Rounds => true,
+        Command::Check | Command::Mesh | Command::Rounds | Command::Upgrade => true,
         Command::Run | Command::Drill => false,
     }
 }
 
-// Writes the answer of a job to what the source has left.
+// Writes the answer of a job to what is taken from the source.
 fn answer_input<S: Source, K: Sink>(alloc: Global, job: Job, src: &mut S, out: &mut K) -> Status
     requires { IsJob job }
-    ensures answer { IfSome (S.left src.old) (λ bytes. IsAnswered result →
-        Appends (K.held out.old) (K.held out.new) (answer_to job (verdict bytes)).text
-        × (number_of result ≡ (answer_to job (verdict bytes)).status)) }
-    ensures front { IfSome (S.left src.old) (λ bytes. result ≡ Status.WriteFault →
-        AppendsFront (K.held out.old) (K.held out.new) (answer_to job (verdict bytes)).text) }
-    ensures unwritten { (result ≡ Status.ReadFault) ⊎ (result ≡ Status.Memory) → K.held out.new ≡ K.held out.old }
+    ensures answer { (result ≢ Status.ReadFault) → (result ≢ Status.Memory) →
+        (bytes : Items ℕ) × IsInput S.gives S.left src.old src.new bytes
+        × Tells result (K.held out.old) (K.held out.new) (answer_to job (verdict bytes)) }
+    ensures known { IfSome (S.left src.old) (λ bytes.
+        Tells result (K.held out.old) (K.held out.new) (answer_to job (verdict bytes))) }
+    ensures unwritten { (result ≡ Status.ReadFault) ⊎ (result ≡ Status.Memory) →
+        (K.held out.new ≡ K.held out.old)
+        × ((bytes : Items ℕ) × IsFront S.gives S.left src.old src.new bytes) }
     ensures read_fault { result ≡ Status.ReadFault → Rose (S.faults src.old) (S.faults src.new) }
     ensures write_fault { result ≡ Status.WriteFault → Rose (K.faults out.old) (K.faults out.new) }
     ensures read_later { S.faults src.old ≤ S.faults src.new }
     ensures write_later { K.faults out.old ≤ K.faults out.new }
-    ensures read { (result ≢ Status.ReadFault) → (result ≢ Status.Memory) →
-        IfSome (S.left src.old) (λ bytes. (taken : Items ℕ) × IsReading 8_388_608 taken bytes × HasRead (S.left src.old) (S.left src.new) taken) }
-    ensures complete { IfSome (S.left src.old) (λ bytes. (Rose (S.faults src.old) (S.faults src.new) ⊎ Rose (K.faults out.old) (K.faults out.new))
-        ⊎ ((result ≡ Status.Memory) ⊎ (number_of result ≡ (answer_to job (verdict bytes)).status))) }
 {
     match whole(alloc, src, MOST_BYTES) {
         Ok(bytes) => answer_text(alloc, job, &bytes, out),
@@ -114,8 +119,11 @@ pub(crate) fn ended(written: Result<(), Failed>, done: Status) -> Status
 // Writes the answer of a job to a text of any length.
 fn answer_text<K: Sink>(alloc: Global, job: Job, bytes: &[u8], out: &mut K) -> Status
     requires { IsJob job }
-    ensures answer { IsAnswered result → Appends (K.held out.old) (K.held out.new) (answer_to job (verdict bytes.now)).text × (number_of result ≡ (answer_to job (verdict bytes.now)).status) }
-    ensures front { result ≡ Status.WriteFault → AppendsFront (K.held out.old) (K.held out.new) (answer_to job (verdict bytes.now)).text }
+    ensures answer { let told = answer_to job (verdict bytes.now) in
+        IsAnswered result →
+        Appends (K.held out.old) (K.held out.new) told.text × (number_of result ≡ told.status) }
+    ensures front { let told = answer_to job (verdict bytes.now) in
+        result ≡ Status.WriteFault → AppendsFront (K.held out.old) (K.held out.new) told.text }
     ensures unwritten { result ≡ Status.Memory → K.held out.new ≡ K.held out.old }
     ensures read { result ≢ Status.ReadFault }
     ensures cause { result ≡ Status.WriteFault → Rose (K.faults out.old) (K.faults out.new) }
@@ -135,8 +143,11 @@ fn answer_text<K: Sink>(alloc: Global, job: Job, bytes: &[u8], out: &mut K) -> S
 fn answer_case<K: Sink>(alloc: Global, job: Job, case: &Case, mesh: &Mesh, out: &mut K) -> Status
     requires job { IsJob job }
     requires accepted { IsAccepted case.now mesh.now }
-    ensures answer { IsAnswered result → Appends (K.held out.old) (K.held out.new) (answer_of job case.now mesh.now).text × (number_of result ≡ (answer_of job case.now mesh.now).status) }
-    ensures front { result ≡ Status.WriteFault → AppendsFront (K.held out.old) (K.held out.new) (answer_of job case.now mesh.now).text }
+    ensures answer { let told = answer_of job case.now mesh.now in
+        IsAnswered result →
+        Appends (K.held out.old) (K.held out.new) told.text × (number_of result ≡ told.status) }
+    ensures front { let told = answer_of job case.now mesh.now in
+        result ≡ Status.WriteFault → AppendsFront (K.held out.old) (K.held out.new) told.text }
     ensures unwritten { result ≡ Status.Memory → K.held out.new ≡ K.held out.old }
     ensures read { result ≢ Status.ReadFault }
     ensures cause { result ≡ Status.WriteFault → Rose (K.faults out.old) (K.faults out.new) }
@@ -147,5 +158,6 @@ fn answer_case<K: Sink>(alloc: Global, job: Job, case: &Case, mesh: &Mesh, out: 
         Command::Mesh => cut(alloc, case, mesh, job.window, out),
         Command::Rounds => rounds(alloc, case, mesh, out),
         Command::Run | Command::Drill => ended(write_usage(out), Status::Words),
+        Command::Upgrade => ended(write_upgraded(case, out), Status::Done),
     }
 }

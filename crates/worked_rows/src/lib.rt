@@ -3,6 +3,10 @@
 #![tactic(auto)]
 
 #[cfg(test)]
+mod hydraulics_rows;
+#[cfg(test)]
 mod number_rows;
 #[cfg(test)]
 mod text_rows;
+#[cfg(test)]
+mod report_rows;

@@ -1,3 +1,4 @@
+//! The calls on a board, each with a seat.
 ghost use Rattle.std.specs.Prelude.{◌≡◌, ◌<◌, true, false, Some, None, IfSome, IfNone, IsTrue};
 ghost use Rattle.claimboard.specs.Views.{view, IsOf, IsSameSeat, found_view, holding, finished_word, Has, KnowsAll, OnlyLoaded, FoundUnfinished};
 ghost use Rattle.claimboard.specs.Answers.{Answers};
@@ -16,14 +17,19 @@ impl<T: Item> Board<T> {
     /// Held gives the item, which no other seat holds. Busy: that word held another seat's number.
     /// Finished: it was finished.
     pub fn claim(&self, seat: &mut BoardSeat<T>, number: u32) -> Claim<T>
-        requires seat { IsOf self.now.table.shared.table_id self.now.table.shared.key.value seat.old.seat }
+        requires seat { IsOf self.now.table.shared.table_id
+            self.now.table.shared.key.value seat.old.seat }
         requires on_board { number < self.now.table.shared.table_id.slots }
         requires empty_handed { (view seat.old.seat).item ≡ None }
-        ensures seat { IsOf self.now.table.shared.table_id self.now.table.shared.key.value seat.new.seat }
+        ensures seat { IsOf self.now.table.shared.table_id
+            self.now.table.shared.key.value seat.new.seat }
         ensures same { IsSameSeat seat.old.seat seat.new.seat }
-        ensures found { view seat.new.seat ≡ found_view (view seat.old.seat) number (view seat.new.seat).found_word (view seat.new.seat).item }
-        ensures answer { Answers T.number_of T.is_finished T.is_good self.now.table.shared.key.value number result (view seat.new.seat) }
-        ensures stays_finished { Has number (view seat.old.seat).finished → (view seat.new.seat).found_word ≡ finished_word }
+        ensures found { view seat.new.seat ≡ found_view (view seat.old.seat) number
+            (view seat.new.seat).found_word (view seat.new.seat).item }
+        ensures answer { Answers T.number_of T.is_finished T.is_good
+            self.now.table.shared.key.value number result (view seat.new.seat) }
+        ensures stays_finished { Has number (view seat.old.seat).finished
+            → (view seat.new.seat).found_word ≡ finished_word }
     {
         let shared = &self.table.shared;
         let place = number as usize;
@@ -39,11 +45,13 @@ impl<T: Item> Board<T> {
 
     /// Puts the item that the seat holds back into its slot, and then frees it.
     pub fn give_back(&self, seat: &mut BoardSeat<T>, item: T)
-        requires seat { IsOf self.now.table.shared.table_id self.now.table.shared.key.value seat.old.seat }
+        requires seat { IsOf self.now.table.shared.table_id
+            self.now.table.shared.key.value seat.old.seat }
         requires held { (view seat.old.seat).item ≡ Some (T.number_of item) }
         requires good { T.is_good self.now.table.shared.key.value item }
         requires not_finished { T.is_finished item ≡ false }
-        ensures seat { IsOf self.now.table.shared.table_id self.now.table.shared.key.value seat.new.seat }
+        ensures seat { IsOf self.now.table.shared.table_id
+            self.now.table.shared.key.value seat.new.seat }
         ensures same { IsSameSeat seat.old.seat seat.new.seat }
         ensures view { view seat.new.seat ≡ holding (view seat.old.seat) None }
     {
@@ -56,11 +64,13 @@ impl<T: Item> Board<T> {
     /// Puts the finished item that the seat holds back into its slot, and then says that it is
     /// finished.
     pub fn finish(&self, seat: &mut BoardSeat<T>, item: T)
-        requires seat { IsOf self.now.table.shared.table_id self.now.table.shared.key.value seat.old.seat }
+        requires seat { IsOf self.now.table.shared.table_id
+            self.now.table.shared.key.value seat.old.seat }
         requires held { (view seat.old.seat).item ≡ Some (T.number_of item) }
         requires good { T.is_good self.now.table.shared.key.value item }
         requires finished { T.is_finished item ≡ true }
-        ensures seat { IsOf self.now.table.shared.table_id self.now.table.shared.key.value seat.new.seat }
+        ensures seat { IsOf self.now.table.shared.table_id
+            self.now.table.shared.key.value seat.new.seat }
         ensures same { IsSameSeat seat.old.seat seat.new.seat }
         ensures view { view seat.new.seat ≡ holding (view seat.old.seat) None }
     {
@@ -73,11 +83,14 @@ impl<T: Item> Board<T> {
     /// Loads the state words in order until one isn't finished. None: the word that was loaded
     /// last, in this call, wasn't.
     pub fn all_finished(&self, seat: &mut BoardSeat<T>) -> Option<Done<T>>
-        requires { IsOf self.now.table.shared.table_id self.now.table.shared.key.value seat.old.seat }
-        ensures seat { IsOf self.now.table.shared.table_id self.now.table.shared.key.value seat.new.seat }
+        requires { IsOf self.now.table.shared.table_id
+            self.now.table.shared.key.value seat.old.seat }
+        ensures seat { IsOf self.now.table.shared.table_id
+            self.now.table.shared.key.value seat.new.seat }
         ensures same { IsSameSeat seat.old.seat seat.new.seat }
         ensures only_loaded { OnlyLoaded (view seat.old.seat) (view seat.new.seat) }
-        ensures none { IfNone result (FoundUnfinished self.now.table.shared.table_id (view seat.old.seat) (view seat.new.seat)) }
+        ensures none { IfNone result (FoundUnfinished self.now.table.shared.table_id
+            (view seat.old.seat) (view seat.new.seat)) }
         ensures some { IfSome result (λ d. d.seat.table_id ≡ self.now.table.shared.table_id) }
     {
         let shared = &self.table.shared;
@@ -94,10 +107,12 @@ fn find_all_finished<T: Item>(top: &Top<T>, seat: &mut Place<T>, count: usize) -
     requires seat { seat.old.table_id ≡ top.now.table_id }
     requires words { top.now.table_id.words ≡ top.now.table_id.slots }
     requires count { count ≡ top.now.table_id.slots }
-    ensures same { (seat.new.table_id ≡ seat.old.table_id) × (seat.new.id ≡ seat.old.id) × (seat.new.me.1 ≡ seat.old.me.1) }
+    ensures same { (seat.new.table_id ≡ seat.old.table_id) × (seat.new.id ≡ seat.old.id)
+        × (seat.new.me.1 ≡ seat.old.me.1) }
     ensures only_loaded { OnlyLoaded (view seat.old) (view seat.new) }
     ensures all { IsTrue result → KnowsAll top.now.table_id seat.new }
-    ensures not_all { (result ≡ false) → FoundUnfinished top.now.table_id (view seat.old) (view seat.new) }
+    ensures not_all { (result ≡ false) →
+        FoundUnfinished top.now.table_id (view seat.old) (view seat.new) }
 {
     for i in 0..count {
         if peek(top, seat, i) != FINISHED {

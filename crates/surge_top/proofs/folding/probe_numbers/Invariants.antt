@@ -1,6 +1,6 @@
 use Rattle.std.proofs.Common.{◌≡◌, map, take}
 use Rattle.case_model.specs.declared.cases.Probe.{Probe}
-use Rattle.envelope.specs.Rows.{number_of}
+use Rattle.case_model.specs.PlaceNumbers.{number_of}
 use Rattle.surge_top.proofs.folding.probe_numbers.Given as goal
 
 abbrev pub invariant-loop-probe : goal.invariant-loop-probe

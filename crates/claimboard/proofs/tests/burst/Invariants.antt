@@ -1,5 +1,0 @@
-use Rattle.std.proofs.Common.{◌≡◌, ◌≤◌}
-use Rattle.claimboard.proofs.tests.burst.Given as goal
-
-abbrev pub invariant-loop : goal.invariant-loop
-invariant-loop l = (l.item.place ≡ l.initial.item.place) × (l.item.count ≤ 100)

@@ -1,5 +1,0 @@
-use Rattle.claimboard.specs.Views.{IsReady}
-use Rattle.claimboard.proofs.tests.work.Given as goal
-
-abbrev pub invariant-loop : goal.invariant-loop
-invariant-loop l = IsReady l.board.table.shared.table_id l.board.table.shared.key.value l.seat.seat

@@ -1,0 +1,33 @@
+-- What a call of the top leaves behind: what it took of its source, and what it told its sink.
+use Rattle.std.specs.Prelude.{◌≡◌, ℕ, ◌+◌, ◌≤◌, ◌⊎◌, List, length, Option, IfSome}
+use Rattle.surge_io.specs.Bytes.{Appends, AppendsFront, HasRead, IsReading}
+use Rattle.surge_io.specs.Readings.{HasFailed, HasTaken, HasTakenAll, WasRead}
+use Rattle.netfile.specs.declared.reading.TheConstants.{MOST_BYTES}
+use Rattle.surge_top.specs.Answer.{Answer}
+use Rattle.surge_top.specs.Status.{IsAnswered, number_of}
+use Rattle.surge_top.specs.declared.status.Status.{Status}
+use Rattle.surge_top.specs.declared.status.Status.TheVariants.{WriteFault}
+
+-- what was appended is the text of this answer and the exit number its status; with a write fault a
+-- first part of the text was appended
+pub record Tells (status : Status) (before now : Option (List ℕ)) (answer : Answer) : Type 0 where
+  pub text : IsAnswered status → Appends before now answer.text
+  pub number : IsAnswered status → number_of status ≡ answer.status
+  pub front : status ≡ WriteFault → AppendsFront before now answer.text
+
+-- these bytes were taken from the source and no other: all up to its end, or one past the limit;
+-- where the source tells what it has left, they are the first of that
+pub record IsInput {S : Type 0} (gives : S → ℕ → Option (List ℕ) → S → Type 0)
+    (left : S → Option (List ℕ)) (before now : S) (bytes : List ℕ) : Type 0 where
+  pub taken : WasRead gives MOST_BYTES before bytes now
+  pub known : IfSome (left before) (IsReading MOST_BYTES bytes)
+  pub rest : HasRead (left before) (left now) bytes
+
+-- these bytes were taken from the source and no other, at most one past the limit; then a read may
+-- have met the end or a fault
+pub record IsFront {S : Type 0} (gives : S → ℕ → Option (List ℕ) → S → Type 0)
+    (left : S → Option (List ℕ)) (before now : S) (bytes : List ℕ) : Type 0 where
+  pub few : length bytes ≤ MOST_BYTES + 1
+  pub taken : HasTaken gives before bytes now ⊎ HasTakenAll gives before bytes now
+      ⊎ HasFailed gives before bytes now
+  pub rest : HasRead (left before) (left now) bytes
