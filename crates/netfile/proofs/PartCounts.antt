@@ -1,5 +1,5 @@
 -- Of lines that break no rule on counts the parts are few, and there is a pipe.
-use Rattle.std.proofs.Common.{ℕ, ◌+◌, ◌<◌, ◌≤◌, ◌≡◌, ◌==◌, ◌||◌, not, nat_lt, Bool, true, false, IsTrue, cond, Option, Some, None, List, [], ◌∷◌, length, codes, ap, sym, subst, ◌∙◌, refl, arith}
+use Rattle.std.proofs.Common.{ℕ, ◌+◌, ◌<◌, ◌≤◌, ◌≡◌, ◌==◌, ◌||◌, not, nat_lt, Bool, false, cond, Option, Some, None, List, [], ◌∷◌, length, codes, ap, sym, subst, ◌∙◌, refl, arith}
 use Rattle.std.proofs.lemmas.Bool.{false_from_ne_true}
 use Rattle.std.specs.List.{list_any, cons_option}
 use Rattle.std.proofs.lemmas.List.Sums.{sum_by-cons}

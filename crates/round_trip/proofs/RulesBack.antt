@@ -14,7 +14,6 @@ use Rattle.case_lines.specs.declared.words.Single.TheVariants.{Step, Steps, Vapo
 use Rattle.case_lines.specs.declared.words.Directive.{Directive}
 use Rattle.case_lines.specs.declared.words.Directive.TheVariants.{OfSingle, OfTable, OfNode, OfPipe}
 use Rattle.case_lines.specs.declared.quantities.Quantity.TheVariants.{TimeStep, StepCount, VapourHead, GrowthWeight, SpeedTolerance, SampleStep}
-use Rattle.case_lines.specs.declared.fields.FieldKind.TheVariants.{Number}
 use Rattle.case_lines.specs.Words.{directive_of, single_of, table_of, node_of, has_single}
 use Rattle.case_lines.specs.Fields.{field, field_kind, has_count, has_too_many, single_field, is_heading}
 use Rattle.case_lines.specs.Tables.{is_disordered}

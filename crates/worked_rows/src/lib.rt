@@ -9,4 +9,6 @@ mod mesh_rows;
 #[cfg(test)]
 mod number_rows;
 #[cfg(test)]
+mod text_rows;
+#[cfg(test)]
 mod report_rows;
