@@ -2,13 +2,19 @@
 //! the answer to standard output, and exits with the number of the status.
 #![tactic(auto)]
 
-ghost use Rattle.std.specs.Prelude.{◌≡◌, IfOk, map, string_bytes};
+ghost use Rattle.std.specs.Prelude.{◌≡◌, ◌⊎◌, ◌≤◌, ◌≢◌, ℕ, List as Items, map, true, false, IfOk};
+ghost use Rattle.std.specs.Prelude.{string_bytes};
+ghost use Rattle.std.specs.Process.{exit_status};
+ghost use Rattle.surge_io.specs.Faults.{Rose};
+ghost use Rattle.surge_top.specs.Answer.{answer, are_read, usage};
+ghost use Rattle.surge_top.specs.Outcome.{IsInput, Tells};
+ghost use Rattle.surge_top.specs.Status.{number_of, IsAnswered};
 
 use std::alloc::{AllocError, Global};
 use std::process::ExitCode;
 use std::rt::Env;
 use std::{env, io};
-use surge_io::{StreamSink, StreamSource};
+use surge_io::{Sink, Source, StreamSink, StreamSource};
 use surge_top::{Status, surge_plain};
 
 // Lends the words, each as it stands.
@@ -22,14 +28,35 @@ fn lend(alloc: Global, words: &[String]) -> Result<Vec<&str>, AllocError>
     Ok(lent)
 }
 
-// Runs the program with these words.
-fn run<R: AllocGlobal + Input + Print>(rt: &R, words: &[String]) -> Status {
-    let Ok(words) = lend(rt.alloc(), words) else {
-        return Status::Memory;
-    };
-    let mut source = StreamSource::over(rt.reader());
-    let mut sink = StreamSink::over(io::writer(rt));
-    surge_plain(rt, &words, &mut source, &mut sink)
+// Runs the program with these words: the status is that of the top call, or want of memory for the
+// words, before which nothing is read and nothing written.
+fn run<R: AllocGlobal, S: Source, K: Sink>(
+    rt: &R,
+    words: &[String],
+    src: &mut S,
+    out: &mut K,
+) -> Status
+    ensures answer { let texts = map string_bytes words.now in
+        (are_read texts ≡ true) → (result ≢ Status.ReadFault) → (result ≢ Status.Memory) →
+        (bytes : Items ℕ) × IsInput S.gives S.left src.old src.new bytes
+        × Tells result (K.held out.old) (K.held out.new) (answer texts bytes) }
+    ensures refused { let texts = map string_bytes words.now in
+        (are_read texts ≡ false) → (src.new ≡ src.old)
+        × ((result ≡ Status.Words) ⊎ (result ≡ Status.WriteFault) ⊎ (result ≡ Status.Memory))
+        × Tells result (K.held out.old) (K.held out.new) usage }
+    ensures words { (result ≡ Status.Words) → are_read (map string_bytes words.now) ≡ false }
+    ensures unwritten { (result ≡ Status.ReadFault) ⊎ (result ≡ Status.Memory) →
+        K.held out.new ≡ K.held out.old }
+    ensures read_fault { result ≡ Status.ReadFault → Rose (S.faults src.old) (S.faults src.new) }
+    ensures write_fault { result ≡ Status.WriteFault → Rose (K.faults out.old) (K.faults out.new) }
+    ensures complete {
+        (Rose (S.faults src.old) (S.faults src.new) ⊎ Rose (K.faults out.old) (K.faults out.new))
+        ⊎ ((result ≡ Status.Memory) ⊎ IsAnswered result) }
+{
+    match lend(rt.alloc(), words) {
+        Ok(words) => surge_plain(rt, &words, src, out),
+        Err(AllocError) => Status::Memory,
+    }
 }
 
 // The words of the command line; none where one of them is no text, which are refused words.
@@ -47,10 +74,22 @@ fn words<R: AllocGlobal + Env>(rt: &R) -> Result<Vec<String>, AllocError> {
     Ok(words)
 }
 
-fn main(rt: HostRuntime) -> ExitCode {
+// The exit number of a status.
+fn exit(status: Status) -> ExitCode
+    ensures number { exit_status result ≡ number_of status }
+    ensures few { exit_status result ≤ 6 }
+{
+    ExitCode::from(status.number())
+}
+
+fn main(rt: HostRuntime) -> ExitCode
+    ensures { exit_status result ≤ 6 }
+{
+    let mut source = StreamSource::over(rt.reader());
+    let mut sink = StreamSink::over(io::writer(&rt));
     let status = match words(&rt) {
-        Ok(words) => run(&rt, &words),
+        Ok(words) => run(&rt, &words, &mut source, &mut sink),
         Err(AllocError) => Status::Memory,
     };
-    ExitCode::from(status.number())
+    exit(status)
 }

@@ -1,5 +1,5 @@
 -- The answer to what was read of an input.
-use Rattle.std.proofs.Common.{◌≡◌, ◌<◌, ◌⊎◌, ℕ, Bool, true, false, List, ◌++◌, length, Option, Some, None, Result, Ok, Err, refl, sym, ap, ap₂, ◌∙◌, subst, arith, inl, inr, length-append}
+use Rattle.std.proofs.Common.{◌≡◌, ◌<◌, ℕ, Bool, true, false, List, ◌++◌, length, Option, Some, None, Result, Ok, Err, refl, sym, ap, ap₂, ◌∙◌, subst, arith, inl, inr, length-append}
 use Rattle.std.proofs.lemmas.List.{append-nil}
 use Rattle.std.proofs.lemmas.Bool.{lt-ltb}
 use Rattle.std.specs.Prelude.{IfSome, if◌then◌else◌}
@@ -73,6 +73,7 @@ not_usage job (Ok accepted) r e = by_command job.command job.window accepted.0 a
     computed_status : (case : Case) (mesh : Mesh) (fault : Option (ℕ × ℕ)) → (computed case mesh fault).status ≡ 2 → ⊥
     computed_status case mesh (Some fault) e = cc
     computed_status case mesh None e = cc
+
     by_command : (command : Command) (wish : ℕ) (case : Case) (mesh : Mesh) → reads command ≡ true → (answer_by command wish case mesh).status ≡ 2 → ⊥
     by_command Check wish case mesh r e = cc
     by_command MeshCommand wish case mesh r e = cc

@@ -1,4 +1,3 @@
 pub mod Answering
 pub mod Fitting
-pub mod Meshing
 pub mod Reporting

@@ -113,6 +113,6 @@ pub fault_here : (law other : Meaning) (n last : ℕ) (o : Option (ℕ × ℕ)) 
 fault_here law other n last o h e k = sym (h ∙ ap (λ m. first_fault m n) e ∙ ap (λ s. first_fault other s) k)
 
 -- what is so of a text that failed is so where the status is a write fault
-pub front_of : {A B : Type 0} (written : Result A B) (status done : Status) (P : Type 0) → MatchResult written (λ u. status ≡ done) (λ e. status ≡ WriteFault) → (done ≡ WriteFault → ⊥) → OnErr written P → status ≡ WriteFault → P
-front_of (Ok u) status done P m n h w = absurd (n (sym m ∙ w))
-front_of (Err e) status done P m n h w = h
+pub front_of : {A B : Type 0} (written : Result A B) (status ending : Status) (P : Type 0) → MatchResult written (λ u. status ≡ ending) (λ e. status ≡ WriteFault) → (ending ≡ WriteFault → ⊥) → OnErr written P → status ≡ WriteFault → P
+front_of (Ok u) status ending P m n h w = absurd (n (sym m ∙ w))
+front_of (Err e) status ending P m n h w = h

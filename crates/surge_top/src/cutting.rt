@@ -1,9 +1,6 @@
 //! What `mesh` does with an accepted case: it cuts the mesh into strands and regions.
 ghost use Rattle.std.specs.Prelude.{◌≡◌, ◌≤◌, ◌≢◌};
 ghost use Rattle.case_model.specs.Accepted.{IsAccepted};
-ghost use Rattle.regions.specs.LaidOut.{IsLaidOut};
-ghost use Rattle.regions.specs.declared.shapes.Layout.{Layout as LayoutSeen};
-ghost use Rattle.report.specs.MeshText.{IsMeshed};
 ghost use Rattle.surge_io.specs.Bytes.{Appends, AppendsFront};
 ghost use Rattle.surge_io.specs.Faults.{Rose};
 ghost use Rattle.surge_top.specs.Answer.{cut as cut_of};
@@ -11,22 +8,11 @@ ghost use Rattle.surge_top.specs.Status.{number_of, IsAnswered};
 
 use crate::status::Status;
 use crate::top::ended;
-use case_model::{Case, Mesh, accepted_cases_are_kept};
-use regions::{WIDEST_WINDOW, layout, layouts_are_sound};
+use case_model::{Case, Mesh};
+use regions::{WIDEST_WINDOW, layout};
 use report::write_mesh;
 use std::alloc::{AllocError, Global};
 use surge_io::Sink;
-
-// An accepted case, its mesh and a cut of that are within the limits of their text.
-fn limits(case: &Case, mesh: &Mesh)
-    requires { IsAccepted case.now mesh.now }
-    ensures { (layout : LayoutSeen) → IsLaidOut layout mesh.now → IsMeshed case.now mesh.now layout }
-{
-    let _ = case;
-    let _ = mesh;
-    accepted_cases_are_kept();
-    layouts_are_sound();
-}
 
 /// Writes how the mesh of an accepted case is cut, with windows of at most `wish` steps.
 pub(crate) fn cut<K: Sink>(
@@ -49,7 +35,6 @@ pub(crate) fn cut<K: Sink>(
     ensures cause { result ≡ Status.WriteFault → Rose (K.faults out.old) (K.faults out.new) }
     ensures later { K.faults out.old ≤ K.faults out.new }
 {
-    limits(case, mesh);
     match layout(alloc, case, mesh, wish) {
         Ok(layout) => ended(write_mesh(case, mesh, &layout, out), Status::Done),
         Err(AllocError) => Status::Memory,

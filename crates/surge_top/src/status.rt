@@ -1,5 +1,6 @@
 //! How a run of the program ended, and the exit number of that.
-ghost use Rattle.std.specs.Prelude.{◌≡◌};
+ghost use Rattle.std.specs.Prelude.{◌≡◌, ◌≤◌};
+
 /// How a run of the program ended.
 #[derive(Clone, Copy, Debug, PartialEq, Eq)]
 pub enum Status {
@@ -24,7 +25,8 @@ impl Status {
 
     /// The exit number: 0 to 6, in the order of the statuses.
     pub fn number(self) -> u8
-        ensures { result ≡ number_of self }
+        ensures number { result ≡ number_of self }
+        ensures few { result ≤ 6 }
     {
         match self {
             Status::Done => 0,

@@ -12,3 +12,15 @@ mod number_rows;
 mod text_rows;
 #[cfg(test)]
 mod report_rows;
+#[cfg(test)]
+mod answers;
+#[cfg(test)]
+mod calls;
+#[cfg(test)]
+mod faults;
+#[cfg(test)]
+mod io_rows;
+#[cfg(test)]
+mod whole_cases;
+#[cfg(test)]
+mod words_rows;

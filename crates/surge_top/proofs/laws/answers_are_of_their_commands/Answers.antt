@@ -1,4 +1,4 @@
-use Rattle.std.proofs.Common.{refl, ap}
+use Rattle.std.proofs.Common.{ap}
 use Rattle.regions.specs.declared.shapes.Layout.{Layout}
 use Rattle.report.specs.MeshText.{mesh_text}
 use Rattle.surge_top.specs.Answer.{Answer, answer}

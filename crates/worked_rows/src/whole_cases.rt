@@ -1,19 +1,13 @@
 //! Reports of whole cases against calculations by hand: lines of the answer.
-use super::{Status, surge_plain};
-use std::alloc::{AllocError, Global};
+use crate::calls::answer;
+use std::alloc::AllocError;
 use std::test::Fail;
-use surge_io::{MemorySink, SteadySource};
+use surge_io::MemorySink;
+use surge_top::Status;
 
-// A sink with room for the reports of some hundred places and steps.
-fn sink(alloc: Global) -> Result<MemorySink, AllocError> {
-    MemorySink::make(alloc, 20_000, Vec::new(alloc))
-}
-
-// The answer of `rounds` to a text.
+// The report of a text.
 fn answered<R: AllocGlobal>(rt: &R, text: &[u8]) -> Result<MemorySink, AllocError> {
-    let mut source = SteadySource::over(text.to_vec(rt.alloc())?);
-    let mut out = sink(rt.alloc())?;
-    let _ended = surge_plain(rt, ["surge", "rounds"].as_slice(), &mut source, &mut out);
+    let (_status, out) = answer(rt, ["surge", "rounds"].as_slice(), text)?;
     Ok(out)
 }
 
@@ -196,11 +190,43 @@ fn fault_past_the_last_step(rt: HostRuntime) -> Result<(), Fail> {
         ),
     ];
     for (text, status, want) in rows {
-        let mut source = SteadySource::over(text.to_vec(rt.alloc())?);
-        let mut out = sink(rt.alloc())?;
-        let ended = surge_plain(&rt, ["surge", "rounds"].as_slice(), &mut source, &mut out);
+        let (ended, out) = answer(&rt, ["surge", "rounds"].as_slice(), text)?;
         assert_eq!(rt; ended, status);
         assert!(rt; out.bytes().starts_with(want));
     }
+    Ok(())
+}
+
+// By Darcy-Weisbach 10 m of head drive Q through 1,000 m of 0.5 m with f = 0.02, where
+// 10 = f L / (2 g D A^2) Q^2 = 0.02 * 1000 / (2 * 9.80665 * 0.5 * 0.19635^2) Q^2 = 52.899 Q^2:
+// Q = 0.43478 m3/s. After 300 s the flow is steady, and the same at every place, by either form of
+// friction.
+#[test]
+fn flow_settles_at_that_of_darcy_and_weisbach(rt: HostRuntime) -> Result<(), Fail> {
+    let rows: [&[u8]; 2] = [
+        b"surge 1\nstep 0.1\nsteps 3000\nevery 3000\nreservoir A 0 100\nreservoir B 0 90\npipe P A B 1000 0.5 1000 0.02 0\nprobe P 0\nprobe P 1\nprobe P 5\nprobe P 9\nprobe P 10\n",
+        b"surge 2\nstep 0.1\nsteps 3000\nevery 3000\nfriction linear\nreservoir A 0 100\nreservoir B 0 90\npipe P A B 1000 0.5 1000 0.02 0\nprobe P 0\nprobe P 1\nprobe P 5\nprobe P 9\nprobe P 10\n",
+    ];
+    for text in rows {
+        let out = answered(&rt, text)?;
+        assert!(rt; has(&out, "\nprobe P 0 3000 100.000000 0.434"));
+        assert!(rt; has(&out, "\nprobe P 10 3000 90.000000 0.434"));
+    }
+    Ok(())
+}
+
+// Without friction both forms give one text, that of the older version of the case text.
+#[test]
+fn friction_forms_agree_without_friction(rt: HostRuntime) -> Result<(), Fail> {
+    let old = answered(
+        &rt,
+        b"surge 1\nstep 0.1\nsteps 41\nopenings T 0 1 0.1 0\nreservoir A 0 100\ndischarge V 0 0.5 100 0 @T 100\npipe P A V 1000 1 1000 0 0.5\nprobe P 10\n",
+    )?;
+    let new = answered(
+        &rt,
+        b"surge 2\nstep 0.1\nsteps 41\nfriction linear\nopenings T 0 1 0.1 0\nreservoir A 0 100\ndischarge V 0 0.5 100 0 @T 100\npipe P A V 1000 1 1000 0 0.5\nprobe P 10\n",
+    )?;
+    assert!(rt; has(&old, "\nprobe P 10 1 164.917164 "));
+    assert_eq!(rt; new.bytes(), old.bytes());
     Ok(())
 }

@@ -1,8 +1,8 @@
-//! The top call over sources and sinks in memory: worked answers, and every fault of the outside.
-use super::{Status, surge_plain};
-use std::alloc::{AllocError, Global};
+//! Answers to words and texts, worked out by hand: refusals, reports of a few steps, meshes, and texts of the
+//! newer version.
+use crate::calls::answer;
 use std::test::Fail;
-use surge_io::{MemorySink, MemorySource};
+use surge_top::Status;
 
 const STILL: &[u8] =
     b"surge 1\nstep 0.1\nsteps 2\nreservoir A 0 100\nreservoir B 0 100\npipe P A B 200 1 1000 0 0\n";
@@ -14,13 +14,9 @@ const PROBED: &[u8] =
 const PROBED_REPORT: &[u8] =
     b"probe P 1 0 100.000000 0.000000000 0.000000000 0.000000000\nprobe P 1 1 100.000000 0.000000000 0.000000000 0.000000000\nprobe P 1 2 100.000000 0.000000000 0.000000000 0.000000000\nenvelope A 100.000000 0 100.000000 0\nenvelope B 100.000000 0 100.000000 0\nenvelope P 0 100.000000 0 100.000000 0\nenvelope P 1 100.000000 0 100.000000 0\nenvelope P 2 100.000000 0 100.000000 0\npeak P 0 100.000000 0 low P 0 100.000000 0\n";
 
-const USAGE: &[u8] =
-    b"usage: surge check|mesh|rounds|run|drill [number] [--workers n] [--slots n] [--window n]\n";
-
-// A source of these bytes in pieces of 8, of which these calls fail.
-fn source(alloc: Global, text: &[u8], failing: &[u64]) -> Result<MemorySource, AllocError> {
-    Ok(MemorySource::over(text.to_vec(alloc)?, 8, failing.to_vec(alloc)?))
-}
+// The still water of 512 reaches and 6 steps.
+const LONG: &[u8] =
+    b"surge 1\nstep 0.1\nsteps 6\nreservoir A 0 100\nreservoir B 0 100\npipe P A B 51200 1 1000 0 0\nprobe P 1\n";
 
 #[test]
 fn reports_are_those_worked_out_by_hand(rt: HostRuntime) -> Result<(), Fail> {
@@ -92,12 +88,9 @@ fn reports_are_those_worked_out_by_hand(rt: HostRuntime) -> Result<(), Fail> {
         ),
     ];
     for (text, want, status) in rows {
-        let mut source = source(rt.alloc(), text, &[])?;
-        let mut sink = MemorySink::make(rt.alloc(), 1_000, Vec::new(rt.alloc()))?;
-        let words = ["surge", "rounds"];
-        let ended = surge_plain(&rt, words.as_slice(), &mut source, &mut sink);
+        let (ended, out) = answer(&rt, ["surge", "rounds"].as_slice(), text)?;
         assert_eq!(rt; ended, status);
-        assert_eq!(rt; sink.bytes(), want);
+        assert_eq!(rt; out.bytes(), want);
     }
     Ok(())
 }
@@ -108,7 +101,7 @@ fn cases_are_accepted_or_refused(rt: HostRuntime) -> Result<(), Fail> {
     // 169.999 m one under 0.85 times that. Of 20 mm, 2,000 m in a reach and f = 0.5 the friction is over
     // 10^8 s2/m5. One probe over 100,000,001 steps has too many samples. Of two faults the one on the
     // earlier line counts, and on one line the one of the least number.
-    let rows: [(&[u8], &[u8], Status); 25] = [
+    let rows: [(&[u8], &[u8], Status); 30] = [
         (STILL, b"accepted\n", Status::Done),
         (
             b"surge 1\nstep 0.1\nsteps 2\nreservoir A 0 100\nreservoir B 0 100\npipe P A B 230 1 1000 0 0\n",
@@ -226,51 +219,36 @@ fn cases_are_accepted_or_refused(rt: HostRuntime) -> Result<(), Fail> {
             b"accepted\n",
             Status::Done,
         ),
+        (
+            b"surge 3\nstep 0.1\nsteps 2\nreservoir A 0 100\nreservoir B 0 100\npipe P A B 200 1 1000 0 0\n",
+            b"refused 1 line 1 first line\n",
+            Status::Refused,
+        ),
+        (
+            b"surge 1\nstep 0.1\nsteps 2\nfriction explicit\nreservoir A 0 100\nreservoir B 0 100\npipe P A B 200 1 1000 0 0\n",
+            b"refused 2 line 4 unknown word\n",
+            Status::Refused,
+        ),
+        (
+            b"surge 2\nstep 0.1\nsteps 2\njunction J 0 0 100\nreservoir R1 0 100\nreservoir R2 0 100\nreservoir R3 0 100\nreservoir R4 0 100\nreservoir R5 0 100\nreservoir R6 0 100\nreservoir R7 0 100\nreservoir R8 0 100\nreservoir R9 0 100\npipe P1 R1 J 200 1 1000 0 0\npipe P2 R2 J 200 1 1000 0 0\npipe P3 R3 J 200 1 1000 0 0\npipe P4 R4 J 200 1 1000 0 0\npipe P5 R5 J 200 1 1000 0 0\npipe P6 R6 J 200 1 1000 0 0\npipe P7 R7 J 200 1 1000 0 0\npipe P8 R8 J 200 1 1000 0 0\npipe P9 R9 J 200 1 1000 0 0\n",
+            b"accepted\n",
+            Status::Done,
+        ),
+        (
+            b"surge 1\nstep 0.1\nsteps 2\njunction J 0 0 100\nreservoir R1 0 100\nreservoir R2 0 100\nreservoir R3 0 100\nreservoir R4 0 100\nreservoir R5 0 100\nreservoir R6 0 100\nreservoir R7 0 100\nreservoir R8 0 100\nreservoir R9 0 100\npipe P1 R1 J 200 1 1000 0 0\npipe P2 R2 J 200 1 1000 0 0\npipe P3 R3 J 200 1 1000 0 0\npipe P4 R4 J 200 1 1000 0 0\npipe P5 R5 J 200 1 1000 0 0\npipe P6 R6 J 200 1 1000 0 0\npipe P7 R7 J 200 1 1000 0 0\npipe P8 R8 J 200 1 1000 0 0\npipe P9 R9 J 200 1 1000 0 0\n",
+            b"refused 11 line 4 ends do not suit\n",
+            Status::Refused,
+        ),
+        (
+            b"surge 2\nstep 0.1\nsteps 2\njunction J 0 0 100\nreservoir R1 0 100\nreservoir R2 0 100\nreservoir R3 0 100\nreservoir R4 0 100\nreservoir R5 0 100\nreservoir R6 0 100\nreservoir R7 0 100\nreservoir R8 0 100\nreservoir R9 0 100\nreservoir R10 0 100\nreservoir R11 0 100\nreservoir R12 0 100\nreservoir R13 0 100\nreservoir R14 0 100\nreservoir R15 0 100\nreservoir R16 0 100\nreservoir R17 0 100\npipe P1 R1 J 200 1 1000 0 0\npipe P2 R2 J 200 1 1000 0 0\npipe P3 R3 J 200 1 1000 0 0\npipe P4 R4 J 200 1 1000 0 0\npipe P5 R5 J 200 1 1000 0 0\npipe P6 R6 J 200 1 1000 0 0\npipe P7 R7 J 200 1 1000 0 0\npipe P8 R8 J 200 1 1000 0 0\npipe P9 R9 J 200 1 1000 0 0\npipe P10 R10 J 200 1 1000 0 0\npipe P11 R11 J 200 1 1000 0 0\npipe P12 R12 J 200 1 1000 0 0\npipe P13 R13 J 200 1 1000 0 0\npipe P14 R14 J 200 1 1000 0 0\npipe P15 R15 J 200 1 1000 0 0\npipe P16 R16 J 200 1 1000 0 0\npipe P17 R17 J 200 1 1000 0 0\n",
+            b"refused 11 line 4 ends do not suit\n",
+            Status::Refused,
+        ),
     ];
     for (text, want, status) in rows {
-        let mut source = source(rt.alloc(), text, &[])?;
-        let mut sink = MemorySink::make(rt.alloc(), 1_000, Vec::new(rt.alloc()))?;
-        let words = ["surge", "check"];
-        let ended = surge_plain(&rt, words.as_slice(), &mut source, &mut sink);
+        let (ended, out) = answer(&rt, ["surge", "check"].as_slice(), text)?;
         assert_eq!(rt; ended, status);
-        assert_eq!(rt; sink.bytes(), want);
-    }
-    Ok(())
-}
-
-#[test]
-fn a_text_over_the_limit_is_refused(rt: HostRuntime) -> Result<(), Fail> {
-    let text = vec![in rt.alloc(); b'#'; 8_388_609]?;
-    let mut source = MemorySource::over(text, 10_000_000, Vec::new(rt.alloc()));
-    let mut sink = MemorySink::make(rt.alloc(), 1_000, Vec::new(rt.alloc()))?;
-    let ended = surge_plain(&rt, ["surge", "check"].as_slice(), &mut source, &mut sink);
-    assert_eq!(rt; ended, Status::Refused);
-    assert_eq!(rt;
-        sink.bytes(),
-        b"refused 10 line 0 too many or too long\n".as_slice()
-    );
-    Ok(())
-}
-
-// The first read of the source is to fail, so these words don't read.
-#[test]
-fn faulty_words_leave_the_source_unread(rt: HostRuntime) -> Result<(), Fail> {
-    let rows: [&[&str]; 8] = [
-        &["surge", "run", "--workers", "0"],
-        &["surge", "drill"],
-        &["surge", "run", "5"],
-        &["surge", "--help"],
-        &["surge"],
-        &["surge", "mesh", "--window", "65"],
-        &["surge", "run", "--slots", "2"],
-        &["surge", "drill", "7"],
-    ];
-    for words in rows {
-        let mut source = source(rt.alloc(), STILL, &[1])?;
-        let mut sink = MemorySink::make(rt.alloc(), 1_000, Vec::new(rt.alloc()))?;
-        let ended = surge_plain(&rt, words, &mut source, &mut sink);
-        assert_eq!(rt; ended, Status::Words);
-        assert_eq!(rt; sink.bytes(), USAGE);
+        assert_eq!(rt; out.bytes(), want);
     }
     Ok(())
 }
@@ -279,10 +257,11 @@ fn faulty_words_leave_the_source_unread(rt: HostRuntime) -> Result<(), Fail> {
 // 3 nodes, 19 seams and 21 sections, of which in 5 windows the stations have 5 regions and the sections
 // 6. One pipe of 7 reaches is one section over two nodes: 2 windows of 4 steps. Two reaches in windows of
 // one step are one section, since each has at least 2 reaches. The main has 2, 2 and 200 reaches: 4 nodes
-// and 99 seams with 10,000 regions, and 102 sections with 10,001.
+// and 99 seams with 10,000 regions, and 102 sections with 10,001. 512 reaches over 6 steps are one window:
+// 2 sections of 256 with a seam, or 8 of 64 with 7 seams, between 2 nodes; sections have 2 regions each.
 #[test]
 fn meshes_are_cut_as_worked_out_by_hand(rt: HostRuntime) -> Result<(), Fail> {
-    let rows: [(&[&str], &[u8], &[u8]); 4] = [
+    let rows: [(&[&str], &[u8], &[u8]); 6] = [
         (
             &["surge", "mesh"],
             b"surge 1\nstep 0.1\nsteps 10\nreservoir A 0 100\njunction J 0 0 100\nreservoir B 0 100\npipe P A J 200 1 1000 0 0\npipe Q J B 4000 1 1000 0 0\n",
@@ -303,44 +282,42 @@ fn meshes_are_cut_as_worked_out_by_hand(rt: HostRuntime) -> Result<(), Fail> {
             b"surge 1\nstep 0.01\nsteps 20000\nevery 1000\ncurve C 0 60 0.2 50 0.4 30\nspeeds S 0 1 2 1 6 0\ngas G 0.1 500 1 60 2 40 4 25 20 5\nreservoir LOW 0 10\npump PU 0 @C @S 10 60\nvessel VE 0 @G 1\nreservoir HIGH 0 47\npipe P1 LOW PU 20 0.4 1000 0.02 0.2\npipe P2 PU VE 20 0.4 1000 0.02 0.2\npipe P3 VE HIGH 2000 0.4 1000 0.02 0.2\nprobe P3 0\nwatch VE\n",
             b"window 2 strands 205 regions 2050102\n",
         ),
+        (
+            &["surge", "mesh", "--window", "256"],
+            LONG,
+            b"window 256 strands 5 regions 7\n",
+        ),
+        (&["surge", "mesh"], LONG, b"window 64 strands 17 regions 25\n"),
     ];
     for (words, text, last) in rows {
-        let mut source = source(rt.alloc(), text, &[])?;
-        let mut sink = MemorySink::make(rt.alloc(), 1_000, Vec::new(rt.alloc()))?;
-        let ended = surge_plain(&rt, words, &mut source, &mut sink);
+        let (ended, out) = answer(&rt, words, text)?;
         assert_eq!(rt; ended, Status::Done);
-        let printed = sink.bytes();
-        let before = printed.len().saturating_sub(last.len());
-        assert_eq!(rt; &printed[before..], last);
+        assert!(rt; out.bytes().ends_with(last));
     }
     Ok(())
 }
 
+
 #[test]
-fn faults_of_the_outside(rt: HostRuntime) -> Result<(), Fail> {
-    let good: &[&str] = &["any name", "rounds", "--window", "3"];
-    let bad: &[&str] = &["surge", "rounds", "rounds"];
-    // words, failing reads, room, failing writes, what the sink holds, status
-    let rows: [(&[&str], &[u64], usize, &[u64], &[u8], Status); 5] = [
-        (good, &[], 1_000, &[1], b"", Status::WriteFault),
-        (
-            good,
-            &[],
-            100,
-            &[],
-            b"probe P 1 0 100.000000 0.000000000 0.000000000 0.000000000\nprobe P 1 1 100.000000 0.000000000 0.0000",
-            Status::WriteFault,
-        ),
-        (good, &[2], 1_000, &[], b"", Status::ReadFault),
-        (bad, &[1], 1_000, &[], USAGE, Status::Words),
-        (bad, &[1], 1_000, &[1], b"", Status::WriteFault),
-    ];
-    for (words, failing_reads, room, failing_writes, want, status) in rows {
-        let mut source = source(rt.alloc(), PROBED, failing_reads)?;
-        let mut sink = MemorySink::make(rt.alloc(), room, failing_writes.to_vec(rt.alloc())?)?;
-        let ended = surge_plain(&rt, words, &mut source, &mut sink);
-        assert_eq!(rt; ended, status);
-        assert_eq!(rt; sink.bytes(), want);
+fn upgrade_writes_every_value(rt: HostRuntime) -> Result<(), Fail> {
+    let (ended, out) = answer(&rt, ["surge", "upgrade"].as_slice(), PROBED)?;
+    assert_eq!(rt; ended, Status::Done);
+    let want =
+        b"surge 2\nstep 0.100000\nsteps 2\nvapour -10.100000\nweight 1.0\ntolerance 0.150\nevery 1\nfriction explicit\nreservoir A 0.000000 100.000000\nreservoir B 0.000000 100.000000\npipe P A B 200.000 1.000 1000.000 0.000000 0.000000000\nprobe P 1\n";
+    assert_eq!(rt; out.bytes(), want.as_slice());
+    let (ended, report) = answer(&rt, ["surge", "rounds"].as_slice(), out.bytes())?;
+    assert_eq!(rt; ended, Status::Done);
+    assert_eq!(rt; report.bytes(), PROBED_REPORT);
+    Ok(())
+}
+
+#[test]
+fn one_report_for_every_window(rt: HostRuntime) -> Result<(), Fail> {
+    for window in ["1", "2", "3", "7", "64", "128", "256"] {
+        let words = ["surge", "rounds", "--window", window];
+        let (ended, out) = answer(&rt, words.as_slice(), PROBED)?;
+        assert_eq!(rt; ended, Status::Done);
+        assert_eq!(rt; out.bytes(), PROBED_REPORT);
     }
     Ok(())
 }
