@@ -1,3 +1,4 @@
 pub mod Same
 pub mod MeaningSame
 pub mod ReportSame
+pub mod AnswerSame

@@ -2,5 +2,7 @@
 #![tactic(auto)]
 
 mod alike;
+mod answers;
 
 pub use alike::upgraded_case_is_alike;
+pub use answers::upgraded_text_answers_alike;
