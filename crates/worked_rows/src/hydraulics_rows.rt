@@ -37,18 +37,32 @@ fn characteristics_with_friction(rt: HostRuntime) {
     );
     assert_eq!(rt;
         arrive_plus(Friction::Explicit, 100_000_000, 1_000_000_000_000, &fast),
-        Some(Arrival { c: 196_000_000, b: 100_000_000 })
+        Some(Arrival {
+            c: 196_000_000,
+            b: 100_000_000
+        })
     );
     assert_eq!(rt;
         arrive_plus(Friction::Linear, 100_000_000, 1_000_000_000_000, &fast),
-        Some(Arrival { c: 200_000_000, b: 102_000_000 })
+        Some(Arrival {
+            c: 200_000_000,
+            b: 102_000_000
+        })
     );
     assert_eq!(rt;
         arrive_minus(Friction::Linear, 100_000_000, 1_000_000_000_000, &fast),
-        Some(Arrival { c: -200_000_000, b: 102_000_000 })
+        Some(Arrival {
+            c: -200_000_000,
+            b: 102_000_000
+        })
     );
     assert_eq!(rt;
-        arrive_plus(Friction::Linear, 100_000_000, 1_000_000_000_000, &Point::Bad),
+        arrive_plus(
+            Friction::Linear,
+            100_000_000,
+            1_000_000_000_000,
+            &Point::Bad
+        ),
         None
     );
 }
@@ -80,7 +94,15 @@ fn friction_where_two_characteristics_meet(rt: HostRuntime) {
     ];
     for (friction, h, q) in rows {
         assert_eq!(rt;
-            inner_point(friction, &rule, 100_000_000, 1_000_000_000_000, &left, &rest, &rest),
+            inner_point(
+                friction,
+                &rule,
+                100_000_000,
+                1_000_000_000_000,
+                &left,
+                &rest,
+                &rest
+            ),
             Point::Good {
                 h,
                 qu: q,

@@ -9,7 +9,10 @@ fn texts_of_one_line(rt: HostRuntime) -> Result<(), Fail> {
     let mut out = MemorySink::make(rt.alloc(), 2_000, Vec::new(rt.alloc()))?;
     assert_eq!(rt; write_usage(&mut out), Ok(()));
     for number in 0..18u8 {
-        assert_eq!(rt; write_refusal(number, 100 + number as u64, &mut out), Ok(()));
+        assert_eq!(rt;
+            write_refusal(number, 100 + number as u64, &mut out),
+            Ok(())
+        );
     }
     assert_eq!(rt; write_refusal(255, 0, &mut out), Ok(()));
     assert_eq!(rt; write_accepted(&mut out), Ok(()));
