@@ -11,87 +11,15 @@ from the program's output.
 """
 import math
 import sys
-from pathlib import Path
 
-FOLDER = Path(__file__).resolve().parent
+sys.dont_write_bytecode = True
+import cavity_cases
+from case_data import AREA_ROUNDING, FOLDER, GRAVITY, ON_A_STEP, ROUNDING, SHUT, TIME_ROUNDING, Case, rows
+
 TABLE = FOLDER / "expected.tsv"
 COLUMNS = ["case", "line", "quantity", "formula", "expected", "tolerance", "reason"]
-GRAVITY = 9.80665
 BAROMETER = 10.33  # m of water, of the gas tables
 EXPONENT = 1.2  # of the gas tables
-
-HEAD_ROUNDING = 0.00002  # m: some tens of roundings to 1e-6 m
-TIME_ROUNDING = 0.000001  # s: the time falls on a step
-rows = []
-
-
-class Pipe:
-    """A pipe of a case text, with what follows from its fields."""
-
-    def __init__(self, fields):
-        self.length, self.diameter, self.wave_speed, self.friction, self.flow = map(float, fields[4:9])
-        self.area = math.pi / 4 * self.diameter ** 2
-        self.velocity = self.flow / self.area
-        self.impedance = self.wave_speed / (GRAVITY * self.area)  # head of a wave over its flow, s/m2
-        self.travel = self.length / self.wave_speed  # L/a, s
-        self.resistance = self.friction * self.length / (2 * GRAVITY * self.diameter * self.area ** 2)  # s2/m5
-        self.joukowsky = self.wave_speed * self.velocity / GRAVITY
-        # the program rounds the area to 1 mm2, and takes 355/452 for pi/4
-        self.area_rounding = 0.5e-6 / self.area + 1e-7
-
-    def rounding(self, head):
-        """The tolerance of a head that was made by a wave of this pipe."""
-        return abs(head) * self.area_rounding + HEAD_ROUNDING
-
-
-class Case:
-    """The directives of a case text by their words and names."""
-
-    def __init__(self, name):
-        self.name = name
-        text = (FOLDER / f"{name}.case").read_text()
-        self.lines = [line.split("#")[0].split() for line in text.splitlines()]
-        self.step = float(self.fields("step")[1])
-
-    def fields(self, word, name=None):
-        for line in self.lines:
-            if line and line[0] == word and name in (None, line[1]):
-                return line
-        raise KeyError(f"{self.name}.case has no {word} {name or ''}")
-
-    def pipe(self, name):
-        return Pipe(self.fields("pipe", name))
-
-    def reaches(self, name):
-        pipe = self.pipe(name)
-        return round(pipe.length / (pipe.wave_speed * self.step))
-
-    def number(self, word, name, place):
-        return float(self.fields(word, name)[place])
-
-    def head(self, name):
-        return self.number("reservoir", name, 3)
-
-    def table(self, word, name):
-        numbers = list(map(float, self.fields(word, name)[2:]))
-        return list(zip(numbers[0::2], numbers[1::2]))
-
-    def at(self, time):
-        """The step at a time; the time falls on one."""
-        step = round(time / self.step)
-        assert abs(step * self.step - time) < 1e-9, f"{self.name}.case: {time} s is no step"
-        return step
-
-    def expect(self, line, quantity, formula, value, tolerance, reason):
-        places = 9 if "m3/s" in quantity or quantity.endswith("m3") else 6
-        rows.append([self.name, line, quantity, formula, f"{value:.{places}f}", up(tolerance), reason])
-
-
-def up(tolerance):
-    """The tolerance with two digits that count, rounded up."""
-    unit = 10.0 ** (math.floor(math.log10(tolerance)) - 1)
-    count = math.ceil(tolerance / unit - 1e-9)
-    return f"{count * unit:.{max(0, -round(math.log10(unit)))}f}"
 
 
 def solve(function, low, high):
@@ -104,11 +32,6 @@ def solve(function, low, high):
         else:
             high = middle
     return (low + high) / 2
-
-
-ROUNDING = "rounding of the area to 1 mm2 and of heads to 1e-6 m"
-ON_A_STEP = "none: the time falls on a step"
-SHUT = 1.0  # s: the time at which the sudden events of the cases stand
 
 
 def stop_three_speeds():
@@ -126,23 +49,21 @@ def stop_three_speeds():
     pipe, start = case.pipe("STEEL"), case.head("R_STEEL")
     tolerance = pipe.rounding(pipe.joukowsky)
     case.expect("peak HEAD", "greatest head of the three mains, m", "H0 + a V/g of STEEL", start + pipe.joukowsky,
-                tolerance,
-                ROUNDING)
+                tolerance, ROUNDING)
     case.expect("peak LOW_HEAD", "least head of the three mains, m", "H0 - a V/g of STEEL", start - pipe.joukowsky,
-                tolerance,
-                ROUNDING)
+                tolerance, ROUNDING)
     middle = start + pipe.joukowsky / 2
     for place, words in [(20, "the hydrant"), (10, "half-way"), (5, "a quarter of the way from the reservoir")]:
         line = "watch H_STEEL" if place == 20 else f"probe STEEL {place}"
         way = pipe.length * (1 - place / 20)
-        case.expect(f"time {line} HEAD above {middle:.0f} from 0", f"STEEL: the rise comes to {words}, s",
-                    "t0 + x/a", SHUT + way / pipe.wave_speed, TIME_ROUNDING, ON_A_STEP)
+        case.expect(f"time {line} HEAD above {middle:.0f} from 0", f"STEEL: the rise comes to {words}, s", "t0 + x/a",
+                    SHUT + way / pipe.wave_speed, TIME_ROUNDING, ON_A_STEP)
         back = SHUT + (2 * pipe.length - way) / pipe.wave_speed
         case.expect(f"time {line} HEAD below {middle:.0f} from {case.at(SHUT + way / pipe.wave_speed)}",
                     f"STEEL: its reflection comes to {words}, s", "t0 + (2L - x)/a", back, TIME_ROUNDING, ON_A_STEP)
     case.expect(f"probe STEEL 10 {case.at(SHUT + 1.5 * pipe.travel)} HEAD",
-                "STEEL: head half-way as the reflection comes, m",
-                "H0", start, pipe.rounding(pipe.joukowsky), ROUNDING)
+                "STEEL: head half-way as the reflection comes, m", "H0", start, pipe.rounding(pipe.joukowsky),
+                ROUNDING)
     case.expect(f"probe STEEL 10 {case.at(SHUT + 1.5 * pipe.travel)} QU",
                 "STEEL: flow half-way as the reflection comes, m3/s", "-Q", -pipe.flow, 1e-7, "rounding of flows")
     case.expect(f"time watch H_STEEL HEAD above {middle:.0f} from {case.at(SHUT + 2 * pipe.travel)}",
@@ -161,8 +82,7 @@ def stop_adjusted_speed():
                     start + pipe.joukowsky, adjustment * pipe.joukowsky + pipe.rounding(rise),
                     f"the wave speed is adjusted by {adjustment:.1%} to whole reaches")
         case.expect(f"watch H {case.at(SHUT)} HEAD", "the same with the adjusted speed, m",
-                    "H0 + a' V/g, a' = L/(N dt)",
-                    start + rise, pipe.rounding(rise), ROUNDING)
+                    "H0 + a' V/g, a' = L/(N dt)", start + rise, pipe.rounding(rise), ROUNDING)
         case.expect(f"time watch H HEAD below {start:.0f} from {case.at(SHUT)}", "the rise ends, s", "t0 + 2L/a",
                     SHUT + 2 * pipe.travel, adjustment * 2 * pipe.length / speed + TIME_ROUNDING,
                     f"the wave speed is adjusted by {adjustment:.1%} to whole reaches")
@@ -211,8 +131,8 @@ def fast_closure():
     case.expect(f"envelope P {full} MAX", f"greatest head {reach:.0f} m from the reservoir, m",
                 "H0 + a V/g at x = a Tc/2", start + pipe.joukowsky, tolerance, ROUNDING)
     case.expect(f"time probe P {full} HEAD above {start + 0.999 * pipe.joukowsky:.1f} from 0",
-                "the full rise comes there, s", "t0 + Tc + (L - x)/a",
-                ends + (pipe.length - reach) / pipe.wave_speed, TIME_ROUNDING, ON_A_STEP)
+                "the full rise comes there, s", "t0 + Tc + (L - x)/a", ends + (pipe.length - reach) / pipe.wave_speed,
+                TIME_ROUNDING, ON_A_STEP)
     for place in [full - 1, full // 2]:
         way = pipe.length * place / reaches
         case.expect(f"envelope P {place} MAX", f"greatest head {way:.0f} m from the reservoir, m",
@@ -256,7 +176,7 @@ def allievi():
             place, sign = (0, -1) if name == "OPEN" else (case.reaches("P_HIGH"), 1)
             case.expect(f"probe P_{name} {place} {case.at(opens + period)} QU",
                         f"{name}: flow through the valve at 2L/a, m3/s", "Q0 n_1 z_1",
-                        sign * full_flow * opening(opens + period) * roots[2], 2e-6, "rounding of the area to 1 mm2")
+                        sign * full_flow * opening(opens + period) * roots[2], 2e-6, AREA_ROUNDING)
 
 
 def transmission(*impedances):
@@ -274,19 +194,19 @@ def wave_reflections():
     case.expect(f"watch WIDENING {case.at(there)} HEAD", "narrow to wide: head at the widening, m", "H0 + s F",
                 start + passed * wave, tolerance, ROUNDING)
     case.expect(f"watch STOP1 {case.at(there + narrow.travel)} HEAD",
-                "narrow to wide: head at the stop after 2L/a, m",
-                "H0 + F + 2 (s - 1) F", start + wave + 2 * (passed - 1) * wave, tolerance, ROUNDING)
+                "narrow to wide: head at the stop after 2L/a, m", "H0 + F + 2 (s - 1) F",
+                start + wave + 2 * (passed - 1) * wave, tolerance, ROUNDING)
     case.expect(f"probe WIDE1 5 {case.at(there + wide.travel / 2)} HEAD",
-                "narrow to wide: head half-way in the wide main, m",
-                "H0 + s F", start + passed * wave, tolerance, ROUNDING)
+                "narrow to wide: head half-way in the wide main, m", "H0 + s F", start + passed * wave, tolerance,
+                ROUNDING)
     case.expect(f"probe WIDE1 5 {case.at(there + wide.travel / 2)} QU",
-                "narrow to wide: flow half-way in the wide main, m3/s",
-                "Q - s F/b", wide.flow - passed * wave / wide.impedance, 1e-6, "rounding of the area to 1 mm2")
+                "narrow to wide: flow half-way in the wide main, m3/s", "Q - s F/b",
+                wide.flow - passed * wave / wide.impedance, 1e-6, AREA_ROUNDING)
     back = there + 1.5 * wide.travel
     case.expect(f"probe WIDE1 5 {case.at(back)} HEAD", "reservoir: head half-way as its reflection comes, m",
                 "H0 + s F - s F", start, tolerance, ROUNDING)
     case.expect(f"probe WIDE1 5 {case.at(back)} QU", "reservoir: flow half-way as its reflection comes, m3/s",
-                "Q - 2 s F/b", wide.flow - 2 * passed * wave / wide.impedance, 1e-6, "rounding of the area to 1 mm2")
+                "Q - 2 s F/b", wide.flow - 2 * passed * wave / wide.impedance, 1e-6, AREA_ROUNDING)
 
     wide, narrow = case.pipe("WIDE2"), case.pipe("NARROW2")
     (_, low), (_, high) = case.table("heads", "RISE")
@@ -307,14 +227,13 @@ def wave_reflections():
     case.expect(f"watch FORK {case.at(there)} HEAD", "fork of three: head at the fork, m", "H0 + s F",
                 start + passed * wave, tolerance, ROUNDING)
     case.expect(f"watch END3 {case.at(there + east.travel)} HEAD", "fork of three: head at the dead end, m",
-                "H0 + 2 s F",
-                start + 2 * passed * wave, tolerance, ROUNDING)
+                "H0 + 2 s F", start + 2 * passed * wave, tolerance, ROUNDING)
     case.expect(f"watch STOP3 {case.at(there + west.travel)} HEAD", "fork of three: head at the stop after 2L/a, m",
                 "H0 + F + 2 (s - 1) F", start + wave + 2 * (passed - 1) * wave, tolerance, ROUNDING)
     again = transmission(east.impedance, main.impedance, west.impedance)
     case.expect(f"watch FORK {case.at(there + 2 * east.travel)} HEAD",
-                "fork of three: head as the dead end's wave comes, m",
-                "H0 + s F + s3 s F", start + passed * wave + again * passed * wave, tolerance, ROUNDING)
+                "fork of three: head as the dead end's wave comes, m", "H0 + s F + s3 s F",
+                start + passed * wave + again * passed * wave, tolerance, ROUNDING)
 
 
 STEADY = "rounding of the area to 1 mm2 and of the loss of each reach to 1e-6 m"
@@ -329,8 +248,7 @@ def steady_networks():
     lift = case.head("A") - case.head("B")
     flow = math.sqrt(lift / (first.resistance + second.resistance))
     case.expect(f"probe S2 0 {last} QU", "series: flow, m3/s", "sqrt(H/(R1 + R2)), R = f L/(2 g D A^2)", flow,
-                STEADY_FLOW,
-                STEADY)
+                STEADY_FLOW, STEADY)
     case.expect(f"watch S {last} HEAD", "series: head between the mains, m", "HA - R1 Q^2",
                 case.head("A") - first.resistance * flow ** 2, STEADY_HEAD, STEADY)
     ends = case.pipe("FIRST").resistance + case.pipe("LAST").resistance
@@ -338,8 +256,7 @@ def steady_networks():
     both = 1 / (1 / math.sqrt(left) + 1 / math.sqrt(right)) ** 2
     flow = math.sqrt((case.head("C") - case.head("D")) / (ends + both))
     case.expect(f"probe LAST 0 {last} QU", "parallel: flow, m3/s",
-                "sqrt(H/(R1 + Rp + R4)), Rp^-1/2 = R2^-1/2 + R3^-1/2",
-                flow, STEADY_FLOW, STEADY)
+                "sqrt(H/(R1 + Rp + R4)), Rp^-1/2 = R2^-1/2 + R3^-1/2", flow, STEADY_FLOW, STEADY)
     case.expect(f"probe LEFT 2 {last} QU", "parallel: flow in the left main, m3/s", "Q sqrt(Rp/R2)",
                 flow * math.sqrt(both / left), STEADY_FLOW, STEADY)
     case.expect(f"probe RIGHT 2 {last} QU", "parallel: flow in the right main, m3/s", "Q sqrt(Rp/R3)",
@@ -371,8 +288,7 @@ def flow_establishment():
             # the loss lags by half a time step, so the flow is ahead by what it would have cost in that time
             lag = case.step / 2 / scale * steady * part ** 2
             case.expect(f"probe P {place} {case.at(time)} QU", f"flow after {time} s, m3/s",
-                        "Q0 tanh(g A H t/(L Q0))",
-                        steady * part, lag, "friction is half a time step late")
+                        "Q0 tanh(g A H t/(L Q0))", steady * part, lag, "friction is half a time step late")
 
 
 def line_packing():
@@ -417,8 +333,7 @@ def surge_tank_oscillation():
     amount = "compressibility of the tunnel's water: the part (w L/a)^2/6"
     late = f"{amount}; one time step"
     case.expect("envelope T MAX", "greatest level, m", "H0 + V sqrt(L A/(g At))", start + rise,
-                elastic * rise + 0.001,
-                amount)
+                elastic * rise + 0.001, amount)
     case.expect("envelope T MIN", "least level, m", "H0 - V sqrt(L A/(g At))", start - rise, elastic * rise + 0.001,
                 amount)
     quarter = case.at(math.ceil(period / 4 / case.step) * case.step)
@@ -427,8 +342,7 @@ def surge_tank_oscillation():
         case.expect(f"time watch T HEAD {side} {start:.0f} from {(parts - 1) * quarter}",
                     "the level is back, s" if parts == 2 else "the level is back again, one period, s",
                     "pi sqrt(L At/(g A))" if parts == 2 else "2 pi sqrt(L At/(g A))", time,
-                    elastic * time + case.step,
-                    late)
+                    elastic * time + case.step, late)
     time = round(period / 8 / case.step)
     case.expect(f"watch T {time} HEAD", "level after an eighth of the period, m", "H0 + Z sin(w t)",
                 start + rise * math.sin(rate * time * case.step), 2 * elastic * rise + 0.001, amount)
@@ -455,14 +369,12 @@ def surge_tank_friction():
     amount = "compressibility of the tunnel's water; friction is half a time step late"
     tolerance = elastic * flow / (area * rigid) + late + 0.001
     case.expect("envelope T MAX", "first upsurge, m", "H0 + z: m z + ln(1 - m z) + m h_f = 0",
-                start + up_level / rate,
-                tolerance, amount)
+                start + up_level / rate, tolerance, amount)
     case.expect("envelope T MIN", "first downsurge, m", "H0 - z2: (1 - m z2) e^(m z2) = (1 + m z) e^(-m z)",
                 start + down_level / rate, tolerance, amount)
     case.expect("watch T 0 HEAD", "level in steady flow, m", "H0 - h_f", start - loss, 0.000001, "rounding")
     case.expect("watch T 1 HEAD", "level after one step, m", "H0 - h_f + Q dt/At",
-                start - loss + flow * case.step / area,
-                0.0001, "the flow falls a little within the step")
+                start - loss + flow * case.step / area, 0.0001, "the flow falls a little within the step")
     second = solve(lambda x: (1 - x) * math.exp(x) - (1 - down_level) * math.exp(down_level), 1e-9, 1 - 1e-12)
     last = int(case.fields("steps")[1])
     case.expect(f"greatest watch T HEAD {case.at(480.0)} {last}", "second upsurge, m",
@@ -527,8 +439,7 @@ def vessel_large():
             return outside * (other - volume) - gas - kinetic
 
         case.expect("watch VE 1 VOLUME", "volume after one step, m3", "V0 + Q dt", volume + pipe.flow * case.step,
-                    1e-8,
-                    "rounding")
+                    1e-8, "rounding")
         rate = math.sqrt(GRAVITY * pipe.area * EXPONENT * outside / (pipe.length * volume))
         elastic = (rate * pipe.travel) ** 2 / 6
         late = math.pi * rate * case.step / 8  # growth of the amplitude in a quarter of a period
@@ -584,8 +495,7 @@ def pump_trip_check_valve():
     case.expect(f"probe RISING 0 {case.at(back)} HEAD", "upsurge behind the pump after 2L/a, m", "HH + a V/g",
                 high + rising.joukowsky, tolerance, ROUNDING)
     case.expect(f"time probe RISING 0 HEAD above {high:.0f} from {step}", "time of that upsurge, s", "t0 + 2L/a",
-                back,
-                TIME_ROUNDING, ON_A_STEP)
+                back, TIME_ROUNDING, ON_A_STEP)
     case.expect(f"envelope RISING {last // 2} MIN", "least head half-way up the main, m", "HH - a V/g",
                 high - rising.joukowsky, tolerance, ROUNDING)
 
@@ -603,7 +513,7 @@ def pump_trip_low_lift():
     case.expect(f"probe SUCTION 5 {step} HEAD", "first upsurge before the pump, m", "HL + H b1/(b1 + b2)",
                 low + lift / 2, tolerance, ROUNDING)
     case.expect(f"probe RISING 0 {step} QU", "flow at the trip, m3/s", "Q - H/(b1 + b2)", rising.flow - fall, 2e-6,
-                "rounding of the area to 1 mm2")
+                AREA_ROUNDING)
     rigid = length * rising.velocity / (GRAVITY * lift)
     line = f"time probe RISING 0 QU below 0.000001 from {step}"
     case.expect(line, "the flow turns, rigid column, s", "t0 + L V/(g H)", SHUT + rigid, travel / 2 + case.step,
@@ -626,146 +536,16 @@ def pump_trip_friction():
     before, after = suction.resistance * suction.flow ** 2, rising.resistance * rising.flow ** 2
     rise = lift + before + after
     case.expect(f"probe RISING 0 {step - 1} HEAD", "steady head behind the pump, m", "HH + R2 Q^2", high + after,
-                0.0001,
-                STEADY)
+                0.0001, STEADY)
     case.expect(f"probe RISING 0 {step} HEAD", "first downsurge behind the pump, m",
-                "HH + R2 Q^2 - P b2/(b1 + b2), P = H + (R1 + R2) Q^2", high + after - rise / 2,
-                0.0001, "rounding of the loss of each reach to 1e-6 m")
+                "HH + R2 Q^2 - P b2/(b1 + b2), P = H + (R1 + R2) Q^2", high + after - rise / 2, 0.0001,
+                "rounding of the loss of each reach to 1e-6 m")
     total = (suction.resistance + rising.resistance) * rising.area ** 2  # of a velocity
     length, travel = suction.length + rising.length, suction.travel + rising.travel
     time = length / (GRAVITY * math.sqrt(lift * total)) * math.atan(rising.velocity * math.sqrt(total / lift))
     case.expect(f"time probe RISING 0 QU below 0.000001 from {step}", "the flow turns, s",
                 "t0 + L/(g sqrt(H k)) atan(V sqrt(k/H))", SHUT + time, travel / 2 * rise / lift + case.step,
                 "the flow falls in steps of the whole rise P: a quarter of 2L/a, P/H times; one time step")
-
-
-def column_separation():
-    for name in ["column_separation", "column_separation_coarse", "column_separation_middle_weight"]:
-        case = Case(name)
-        pipe, start = case.pipe("P"), case.head("R")
-        weight = float(case.fields("weight")[1])
-        vapour = case.number("junction", "V", 2) - 10.1
-        pull, period = start - vapour, 2 * pipe.travel  # head that brings the column back
-        tolerance = pipe.rounding(2 * pipe.joukowsky)
-        opened = SHUT + period
-        case.expect(f"watch V {case.at(SHUT)} HEAD", "head as the main is shut, m", "H0 + a V/g",
-                    start + pipe.joukowsky, tolerance, ROUNDING)
-        case.expect(f"watch V {case.at(opened)} HEAD", "head as the cavity opens, m", "z + hv", vapour, 1e-6, "none")
-        case.expect(f"time watch V HEAD below {vapour + 0.001:.3f} from {case.at(SHUT)}", "the cavity opens, s",
-                    "t0 + 2L/a", opened,
-                    TIME_ROUNDING, ON_A_STEP)
-        # the flow away from the end falls by 2 H/b with each return of the wave
-        growth, volumes = pipe.flow - pull / pipe.impedance, [0.0]
-        case.expect(f"watch V {case.at(opened)} GROWTH", "first growth of the cavity, m3/s", "Q - H/b", growth, 2e-6,
-                    "rounding of the area to 1 mm2")
-        first = growth
-        while volumes[-1] + growth * period > 0:
-            volumes.append(volumes[-1] + growth * period)
-            growth -= 2 * pull / pipe.impedance
-        collapse = opened + (len(volumes) - 1) * period + volumes[-1] / -growth
-        greatest = max(volumes)
-        late = (1 - weight) * case.step * (pull / pipe.impedance * 2)
-        case.expect("cavity V VOLUME", "greatest volume of the cavity, m3", "sum of (Q - (2i - 1) H/b) 2L/a",
-                    greatest,
-                    late + 1e-5, "rounding of the area to 1 mm2" if weight == 1 else
-                    "the mean of old and new growth; rounding of the area to 1 mm2")
-        steps = 5
-        case.expect(f"watch V {case.at(opened) + steps - 1} VOLUME", f"volume {steps} steps after it opens, m3",
-                    "(Q - H/b)(5 - (1 - w)) dt", first * (steps - (1 - weight)) * case.step, 1e-7,
-                    "rounding of the area to 1 mm2")
-        line = f"time watch V HEAD above {vapour + 1:.1f} from {case.at(opened)}"
-        case.expect(line, "the cavity collapses, rigid column, s", "t0 + 2L/a + 2 L V/(g H)",
-                    opened + 2 * pipe.length * pipe.velocity / (GRAVITY * pull), pipe.travel + case.step,
-                    "the flow changes in steps: half of 2L/a, and one time step")
-        case.expect(line, "the cavity collapses, by the steps of the flow, s", "t0 + 2L/a + time of volume 0",
-                    collapse,
-                    case.step, "one time step")
-        if weight == 1:
-            # each step counts whole: the collapse is seen where its time is used up, counted from one step before
-            step = case.at(opened) - 1 + math.ceil((collapse - opened) / case.step)
-            case.expect(f"watch V {step} HEAD", "head at the step of the collapse, m", "z + hv - b g",
-                        vapour - pipe.impedance * growth, 2 * tolerance, ROUNDING)
-        peak_line = f"greatest watch V HEAD {case.at(opened)} {case.at(math.floor(collapse) + 1.0) - 1}"
-        case.expect(peak_line, "head at the collapse, rigid column, m", "z + hv + a V/g", vapour + pipe.joukowsky,
-                    pull,
-                    "the flow changes in steps of 2 H/b: half of one")
-        case.expect(peak_line, "head at the collapse, by the steps of the flow, m", "z + hv - b g",
-                    vapour - pipe.impedance * growth,
-                    2 * tolerance, ROUNDING)
-        case.expect("envelope V MAX", "peak after the collapse, m", "z + hv - b g + 2 H",
-                    vapour - pipe.impedance * growth + 2 * pull, 2 * tolerance, ROUNDING)
-        case.expect("count cavity", "places with a cavity", "1", 1, 1e-6, "none")
-
-
-def meeting_waves():
-    case = Case("meeting_waves")
-    pipe = case.pipe("P")
-    (_, high), (_, low) = case.table("heads", "FALL")
-    fall, vapour = high - low, -10.1
-    lack = vapour - (high - 2 * fall)  # by which the vapour head is above the head without a cavity
-    middle = case.reaches("P") // 2
-    opened = SHUT + pipe.travel / 2
-    tolerance = pipe.rounding(2 * fall)
-    reason = "rounding of the area to 1 mm2"
-    line = f"probe P {middle}"
-    case.expect(f"{line} {case.at(opened)} HEAD", "head where the waves meet, m", "hv", vapour, 1e-6, "none")
-    case.expect(f"{line} {case.at(opened)} QU", "flow before the cavity, m3/s", "-(hv - (H0 - 2 F))/b",
-                -lack / pipe.impedance, 1e-6, reason)
-    case.expect(f"{line} {case.at(opened)} QD", "flow behind the cavity, m3/s", "(hv - (H0 - 2 F))/b",
-                lack / pipe.impedance, 1e-6, reason)
-    back = opened + pipe.travel
-    first = 2 * lack / pipe.impedance
-    second = first - 4 * (low - vapour) / pipe.impedance
-    case.expect(f"cavity P {middle} VOLUME", "greatest volume, m3", "2 (hv - (H0 - 2 F))/b L/a",
-                first * pipe.travel, 1e-6,
-                reason)
-    case.expect(f"time {line} HEAD above {vapour + 1:.1f} from {case.at(opened)}", "the cavity collapses, s",
-                "t1 + L/a + V/(4 (H1 - hv)/b - g)", back + first * pipe.travel / -second, case.step, "one time step")
-    collapsed = vapour - pipe.impedance * second / 2
-    case.expect(f"greatest {line} HEAD {case.at(opened)} {case.at(back + pipe.travel) - 1}",
-                "head at the collapse, m",
-                "hv + b (4 (H1 - hv)/b - g)/2", collapsed, tolerance, ROUNDING)
-    case.expect(f"envelope P {middle} MAX", "peak after the collapse, m", "that head + 2 (H1 - hv)",
-                collapsed + 2 * (low - vapour), tolerance, ROUNDING)
-    case.expect(f"probe P {middle // 2} {case.at(opened + pipe.travel / 4)} HEAD",
-                "head on the way to the reservoir, m",
-                "hv", vapour, tolerance, ROUNDING)
-    case.expect(f"probe P {middle // 2} {case.at(opened + pipe.travel / 4)} QU", "flow there, m3/s",
-                "-(hv - (H0 - 2 F))/b", -lack / pipe.impedance, 1e-6, reason)
-
-
-def cavity_at_valve():
-    case = Case("cavity_at_valve")
-    pipe = case.pipe("P")
-    (_, high), (_, low) = case.table("heads", "FALL")
-    full_flow, loss, outlet, opening = map(float, case.fields("discharge", "V")[3:7])
-    area = (opening * full_flow) ** 2 / loss  # (n q0)^2/h0
-    vapour, last = -10.1, case.reaches("P")
-    opened = SHUT + pipe.travel
-    back = opened + 2 * pipe.travel
-    inflow = -math.sqrt(area * (outlet - vapour))  # through the valve, out of the main
-    away = (vapour - (high - 2 * (high - low))) / pipe.impedance
-    growth = inflow + away
-    reason = "rounding of the area to 1 mm2"
-    case.expect(f"watch V {case.at(opened)} HEAD", "head as the cavity opens, m", "hv", vapour, 1e-6, "none")
-    case.expect(f"watch V {case.at(opened)} GROWTH", "growth of the cavity, m3/s",
-                "(hv - (H0 - 2 F))/b - n q0 sqrt((Ho - hv)/h0)", growth, 1e-6, reason)
-    case.expect(f"probe P {last} {case.at(opened)} QU", "flow in the main at the valve, m3/s",
-                "-(hv - (H0 - 2 F))/b", -away,
-                1e-6, reason)
-    case.expect("cavity V VOLUME", "greatest volume, m3", "g 2L/a", growth * 2 * pipe.travel, 2e-6, reason)
-    arrival = high - 2 * (high - low) + 2 * (low - vapour)
-    shrink = (arrival - vapour) / pipe.impedance - inflow
-    case.expect(f"time watch V HEAD above {vapour + 0.1:.1f} from {case.at(opened)}", "the cavity closes, s",
-                "t1 + 2L/a + g (2L/a)/((c - hv)/b + n q0 sqrt((Ho - hv)/h0))",
-                back + growth * 2 * pipe.travel / shrink, case.step,
-                "one time step")
-    # behind it the valve lets water flow back: (q/(n q0))^2 h0 = Ho - c - b q
-    half = pipe.impedance * area / 2
-    reverse = -half + math.sqrt(half ** 2 + area * (outlet - arrival))
-    case.expect(f"watch V {case.at(back + 1.8 * pipe.travel)} HEAD", "head after it closes, m",
-                "c + b q, h0 (q/(n q0))^2 + b q = Ho - c", arrival + pipe.impedance * reverse,
-                pipe.rounding(outlet), ROUNDING)
 
 
 def inline_valve_steady():
@@ -802,103 +582,22 @@ def inline_valve_wave():
         tolerance = second.rounding(2 * wave)
         words = {"LIKE": "like mains", "UNLIKE": "narrower main", "CLOSED": "valve shut"}[name]
         case.expect(f"probe {after} 0 {step} QU", f"{words}: flow that passes, m3/s",
-                    "q: h0 (q/(n q0))^2 + (b1 + b2) q = 2 F",
-                    flow, 1e-6, "rounding of the area to 1 mm2")
+                    "q: h0 (q/(n q0))^2 + (b1 + b2) q = 2 F", flow, 1e-6, AREA_ROUNDING)
         case.expect(f"probe {before} 10 {step} HEAD", f"{words}: head before the valve, m", "H0 + 2 F - b1 q",
                     low + 2 * wave - first.impedance * flow, tolerance, ROUNDING)
         case.expect(f"probe {after} 0 {step} HEAD", f"{words}: head behind the valve, m", "H0 + b2 q",
                     low + second.impedance * flow, tolerance, ROUNDING)
         if name == "LIKE":
             case.expect(f"probe {before} 5 {case.at(SHUT + 1.5 * first.travel)} HEAD",
-                        f"{words}: head half-way back, m", "H0 + 2 F - b1 q",
-                        low + 2 * wave - first.impedance * flow, tolerance, ROUNDING)
-
-
-def sloping_main():
-    for name in ["sloping_main", "sloping_main_coarse"]:
-        case = Case(name)
-        pipe, start = case.pipe("P"), case.head("B")
-        reaches, climb = case.reaches("P"), case.number("reservoir", "B", 2)
-        fall = pipe.impedance * pipe.flow
-        tolerance = pipe.rounding(fall)
-
-        def vapour(place):
-            return climb * place / reaches - 10.1
-
-        lowest = math.ceil((start - fall + 10.1) / climb * reaches)  # the first place above that elevation
-        way = pipe.length / reaches
-        reason = "rounding of the area to 1 mm2"
-        case.expect("count cavity", "places with a cavity", "those with z + hv > H0 - b Q", reaches - lowest, 1e-6,
-                    "none")
-        case.expect(f"envelope P {lowest - 1} MIN", f"least head {way * (lowest - 1):.0f} m up, below the zone, m",
-                    "H0 - b Q",
-                    start - fall, tolerance, ROUNDING)
-        upper = [line for line in case.lines if line and line[0] == "probe"][2][2]
-        for place in [lowest, int(upper), reaches - 1]:
-            comes = SHUT + way * place / pipe.wave_speed
-            below = start - fall if place == lowest else vapour(place - 1)  # head that comes from the place below
-            lack = vapour(place) - below
-            words = f"{way * place:.0f} m up"
-            case.expect(f"envelope P {place} MIN", f"least head {words}, m", "z + hv", vapour(place), 2e-6,
-                        "rounding")
-            case.expect(f"time probe P {place} VOLUME above 0 from 0", f"the cavity opens {words}, s", "t0 + x/a",
-                        comes,
-                        TIME_ROUNDING, ON_A_STEP)
-            before = pipe.flow - (start - below) / pipe.impedance
-            case.expect(f"probe P {place} {case.at(comes)} QU", f"flow before the cavity {words}, m3/s",
-                        "Q - (H0 - h)/b - (z + hv - h)/b, h the head that comes", before - lack / pipe.impedance,
-                        1e-6, reason)
-            case.expect(f"probe P {place} {case.at(comes)} QD", f"flow behind the cavity {words}, m3/s",
-                        "Q - (H0 - z - hv)/b", pipe.flow - (start - vapour(place)) / pipe.impedance, 1e-6, reason)
-
-
-def crest_cavity():
-    for name in ["crest_cavity", "crest_cavity_coarse"]:
-        case = Case(name)
-        pipe, start = case.pipe("UP"), case.head("B")
-        vapour = case.number("junction", "CREST", 2) - 10.1
-        fall = pipe.impedance * pipe.flow
-        lack = vapour - (start - fall)
-        opened = SHUT + case.pipe("P1").travel + pipe.travel
-        period = 2 * (case.pipe("DOWN").travel + case.pipe("P2").travel)
-        tolerance = pipe.rounding(fall)
-        growth = 2 * lack / pipe.impedance
-        shrink = 2 * (start - vapour) / pipe.impedance - growth
-        reason = "rounding of the area to 1 mm2"
-        case.expect("envelope CREST MIN", "least head at the crest, m", "z + hv", vapour, 1e-6, "none")
-        case.expect(f"time watch CREST HEAD below {vapour + 0.001:.3f} from 0", "the cavity opens, s", "t0 + x/a",
-                    opened, TIME_ROUNDING,
-                    ON_A_STEP)
-        case.expect("count cavity", "places with a cavity", "1, the crest", 1, 1e-6, "none")
-        case.expect("envelope S MIN", "least head at the lower end, m", "H0 - b Q", start - fall, tolerance, ROUNDING)
-        case.expect(f"watch CREST {case.at(opened)} GROWTH", "growth of the cavity, m3/s",
-                    "2 (z + hv - (H0 - b Q))/b", growth,
-                    1e-6, reason)
-        case.expect("cavity CREST VOLUME", "greatest volume, m3", "g 2 L2/a", growth * period, 2e-6, reason)
-        case.expect(f"time watch CREST HEAD above {vapour + 0.1:.1f} from {case.at(opened)}", "the cavity closes, s",
-                    "t1 + 2 L2/a + g (2 L2/a)/(2 (H0 - z - hv)/b - g)", opened + period + growth * period / shrink,
-                    case.step,
-                    "one time step")
-        closed = period + growth * period / shrink
-        step = case.at(opened) - 1 + math.ceil(closed / case.step)  # each step counts whole, from one step before
-        case.expect(f"watch CREST {step} HEAD", "head at the step of the end, m", "H0 - (z + hv - (H0 - b Q))",
-                    start - lack, 2 * tolerance, ROUNDING)
-        case.expect(f"greatest watch CREST HEAD {case.at(opened)} {case.at(6.0)}", "head as it closes, m",
-                    "H0 - (z + hv - (H0 - b Q))",
-                    start - lack, 2 * tolerance, ROUNDING)
-        heel = opened + case.pipe("DOWN").travel
-        case.expect(f"probe P2 0 {case.at(heel)} HEAD", "head behind the crest as the wave comes, m", "z + hv",
-                    vapour, tolerance,
-                    ROUNDING)
-        case.expect(f"envelope P2 0 MIN", "least head behind the crest, m", "z + hv", vapour, tolerance, ROUNDING)
+                        f"{words}: head half-way back, m", "H0 + 2 F - b1 q", low + 2 * wave - first.impedance * flow,
+                        tolerance, ROUNDING)
 
 
 ALL = [stop_three_speeds, stop_adjusted_speed, slow_closure, fast_closure, allievi, wave_reflections, steady_networks,
        flow_establishment, line_packing, surge_tank_oscillation, surge_tank_friction, vessel_small_oscillation,
        vessel_large, pump_duty_point, pump_trip_check_valve, pump_trip_low_lift, pump_trip_friction,
-       column_separation,
-       meeting_waves, cavity_at_valve, inline_valve_steady, inline_valve_wave, crest_cavity,
-       sloping_main]
+       cavity_cases.column_separation, cavity_cases.meeting_waves, cavity_cases.cavity_at_valve, inline_valve_steady,
+       inline_valve_wave, cavity_cases.crest_cavity, cavity_cases.sloping_main]
 
 
 def main():

@@ -1,22 +1,16 @@
 -- Tests of numbers in a range, one number after another; and the least rule that more and more fields break.
 use Rattle.std.proofs.Common.{◌≡◌, ℕ, zero, suc, ◌+◌, ◌-◌, ◌<◌, ◌≤◌, ◌||◌, ◌&&◌, Bool, true, false, Option, Some, None, List, refl, ap, sym, ◌∙◌, arith, get_or}
-use Rattle.std.proofs.Math.Bool.{or_assoc, or-false, and_assoc, and-true}
-use Rattle.std.specs.List.{list_any, list_all, range_with_len}
+use Rattle.std.proofs.Math.Bool.{and_assoc, and-true}
+use Rattle.std.specs.List.{list_all, range_with_len}
 use Rattle.std.proofs.lemmas.List.FromFn.{length-range_with_len, get_or-range_with_len}
 use Rattle.std.proofs.lemmas.List.Folds.{list_all_at}
 use Rattle.case_model.specs.Sets.{FindsLeast}
+use Rattle.case_model.proofs.Sets.{any_suc}
 use Rattle.case_model.specs.declared.cases.TableKind.{TableKind}
 use Rattle.case_lines.specs.declared.words.Directive.{Directive}
 use Rattle.case_lines.specs.Fields.{field, field_kind}
 use Rattle.case_lines.specs.Alone.{breaks_field, breaks_fields}
 use Rattle.case_lines.specs.Tables.{pair_at, may_follow, follow}
-
--- a range with one number more
-pub any_suc : (p : ℕ → Bool) (a n : ℕ) → list_any p (range_with_len a (suc n)) ≡ (list_any p (range_with_len a n) || p (a + n))
-any_suc p a zero = or-false (p a) ∙ ap p (omega arith)
-any_suc p a (suc n) =
-    ap (λ (b : Bool). p a || b) (any_suc p (a + 1) n ∙ ap (λ (k : ℕ). list_any p (range_with_len (a + 1) n) || p k) (omega arith))
-    ∙ sym (or_assoc (p a) (list_any p (range_with_len (a + 1) n)) (p (a + suc n)))
 
 all_suc : (p : ℕ → Bool) (a n : ℕ) → list_all p (range_with_len a (suc n)) ≡ (list_all p (range_with_len a n) && p (a + n))
 all_suc p a zero = and-true (p a) ∙ ap p (omega arith)

@@ -5,3 +5,5 @@ pub mod PlaceLaws
 pub mod FaultLaws
 pub mod WordLaws
 pub mod SearchLaws
+pub mod ListFacts
+pub mod Running

@@ -23,7 +23,7 @@ length-bad_points : (law : Meaning) (s p : ℕ) → length (bad_points law s p) 
 length-bad_points law s p = length-map (points law s p) is_bad ∙ length-points law s p
 
 -- one number more
-range_more : (n : ℕ) → range_with_len 0 (n + 1) ≡ range_with_len 0 n ++ n ∷ []
+pub range_more : (n : ℕ) → range_with_len 0 (n + 1) ≡ range_with_len 0 n ++ n ∷ []
 range_more n =
     sym (map-id (range_with_len 0 (n + 1))) ∙ map-range_with_len_more (λ x. x) 0 n n (omega arith) ∙ ap (λ l. l ++ n ∷ []) (map-id (range_with_len 0 n))
 

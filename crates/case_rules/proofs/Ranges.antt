@@ -1,11 +1,11 @@
 -- Tests of the fields behind the word of a line, one after another.
-use Rattle.std.proofs.Common.{◌≡◌, ℕ, zero, suc, ◌+◌, ◌-◌, ◌≤◌, ◌||◌, Bool, true, false, List, refl, ap, ◌∙◌, arith, get_or}
-use Rattle.std.specs.List.{list_any, range_with_len}
+use Rattle.std.proofs.Common.{◌≡◌, ℕ, suc, ◌+◌, ◌-◌, ◌≤◌, true, false, List, refl, ◌∙◌, arith, get_or}
+use Rattle.std.specs.List.{range_with_len}
 use Rattle.std.proofs.lemmas.List.FromFn.{length-range_with_len, get_or-range_with_len}
 use Rattle.std.proofs.lemmas.List.Folds.{list_any_at}
 use Rattle.case_lines.specs.declared.words.Directive.{Directive}
 use Rattle.case_lines.specs.Fields.{field, field_kind}
-use Rattle.case_lines.proofs.Ranges.{any_suc}
+use Rattle.case_model.proofs.Sets.{any_suc}
 use Rattle.case_rules.specs.Among.{is_unknown, uses_unknown}
 
 pub unknown_none : (lines : List (List (List ℕ))) (d : Directive) (fields : List (List ℕ)) → uses_unknown lines d fields 0 ≡ false

@@ -1,5 +1,5 @@
 -- The least rule of a line, by its directive and its number.
-use Rattle.std.proofs.Common.{◌≡◌, ℕ, ◌==◌, ◌||◌, Bool, true, false, Option, Some, None, List, length, refl, sym, ◌∙◌}
+use Rattle.std.proofs.Common.{◌≡◌, ℕ, ◌==◌, ◌||◌, true, false, Option, Some, List, length, refl, sym}
 use Rattle.std.proofs.Math.Bool.{or-false}
 use Rattle.case_model.specs.Sets.{FindsLeast}
 use Rattle.case_lines.specs.declared.words.Directive.{Directive}

@@ -1,5 +1,6 @@
 -- A tally of the lines of a text, and what it says of the rules on counts.
 use Rattle.std.proofs.Common.{ℕ, ◌+◌, ◌-◌, ◌<◌, ◌≤◌, ◌≡◌, ◌⊎◌, ◌==◌, ◌&&◌, ◌||◌, not, nat_lt, Bool, true, false, IsTrue, Option, List, [], ◌∷◌, codes, ap, sym, ◌∙◌, refl, arith}
+use Rattle.std.proofs.Math.Bool.{or-false, or_assoc}
 use Rattle.std.specs.List.{list_any}
 use Rattle.std.proofs.lemmas.List.Sums.{sum_by-cons}
 use Rattle.case_model.specs.Sets.{IsEmpty, IsLeast}
@@ -12,7 +13,7 @@ use Rattle.case_rules.specs.Tallies.{one_if, nothing, counted, tally_of, IsFew}
 one_more : (b : Bool) (n m : ℕ) → n + one_if b + m ≡ n + (one_if b + m)
 one_more b n m = omega arith
 
-count_more : (p : Option Directive → Bool) (fields : List (List ℕ)) (lines : List (List (List ℕ))) → count_of p (fields ∷ lines) ≡ one_if (p (said fields)) + count_of p lines
+pub count_more : (p : Option Directive → Bool) (fields : List (List ℕ)) (lines : List (List (List ℕ))) → count_of p (fields ∷ lines) ≡ one_if (p (said fields)) + count_of p lines
 unfolding count_of
 count_more p fields lines = sum_by-cons (λ f. one_if (p (said f))) fields lines
 
@@ -41,22 +42,14 @@ unfolding counted
 probes_are t [] = count_none is_sampled t.probes
 probes_are t (fields ∷ lines) = probes_are (counted t fields) lines ∙ one_more (is_sampled (said fields)) t.probes (count_of is_sampled lines) ∙ sym (ap (λ n. t.probes + n) (count_more is_sampled fields lines))
 
-or_false : (a : Bool) → a ≡ (a || false)
-or_false true = refl
-or_false false = refl
-
-or_assoc : (a b c : Bool) → ((a || b) || c) ≡ (a || (b || c))
-or_assoc true b c = refl
-or_assoc false b c = refl
-
 step_is : (t : Tally) (lines : List (List (List ℕ))) → (tally_of t lines).has_step ≡ (t.has_step || list_any (is_single_of (codes "step")) lines)
 unfolding counted
-step_is t [] = or_false t.has_step
+step_is t [] = sym (or-false t.has_step)
 step_is t (fields ∷ lines) = step_is (counted t fields) lines ∙ or_assoc t.has_step (is_single_of (codes "step") fields) (list_any (is_single_of (codes "step")) lines)
 
 steps_is : (t : Tally) (lines : List (List (List ℕ))) → (tally_of t lines).has_steps ≡ (t.has_steps || list_any (is_single_of (codes "steps")) lines)
 unfolding counted
-steps_is t [] = or_false t.has_steps
+steps_is t [] = sym (or-false t.has_steps)
 steps_is t (fields ∷ lines) = steps_is (counted t fields) lines ∙ or_assoc t.has_steps (is_single_of (codes "steps") fields) (list_any (is_single_of (codes "steps")) lines)
 
 zero_more : (n : ℕ) → 0 + n ≡ n

@@ -1,3 +1,2 @@
-pub mod Widths
 pub mod Pieces
 pub mod Upgrading

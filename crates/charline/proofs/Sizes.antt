@@ -6,9 +6,6 @@ use Rattle.std.proofs.lemmas.Bool.{cases_lt}
 use Rattle.std.proofs.lemmas.Nat.{mul-le}
 use Rattle.charline.specs.Characteristics.{IsImpedance}
 
-pub fits : (z : ℤ) → unsigned_abs z ≤ 1000000000000000000 → FitsSigned w64 z
-fits z h = fits_signed_from_abs w64 z (omega arith)
-
 pub fits_wide : (z : ℤ) → unsigned_abs z ≤ 100000000000000000000000000000000 → FitsSigned w128 z
 fits_wide z h = fits_signed_from_abs w128 z (omega arith)
 

@@ -6,12 +6,7 @@ use Rattle.case_model.specs.Samples.{Sample, head_of, volume_of, IsGreatest, IsS
 use Rattle.envelope.specs.Extremes.{greater_or, lesser_or, greatest_over, least_over, or_zero, extreme_over, IsEnvelopeOf}
 use Rattle.envelope.specs.declared.extremes.Extreme.{Extreme}
 use Rattle.envelope.proofs.Placed.{or-over}
-
-lt-by : (x y : ℤ) → int_lt x y ≡ true → x <ℤ y
-lt-by x y h = grind (arith, ints)
-
-le-by : (x y : ℤ) → int_lt x y ≡ false → y ≤ℤ x
-le-by x y h = grind (arith, ints)
+use Rattle.fixed_num.proofs.Orders.{less_of, not_less_of}
 
 le-both : (x y : ℤ) → x ≤ℤ y → y ≤ℤ x → x ≡ y
 le-both x y h k = omega (arith, ints)
@@ -91,8 +86,8 @@ not-before value last x y s t p h l = λ e. not-over x y h (bound-at (λ v. v �
 greatest-by : (value : ℕ → Option ℤ) (last : ℕ) (best : ℤ × ℕ) (x : ℤ) (b : Bool) → int_lt best.0 x ≡ b → IsGreatest value last best.0 best.1 → value (suc last) ≡ Some x
     → TellsGreatest value (suc last) (if b then Some (x, suc last) else Some best)
 greatest-by value last best x true h p e =
-    greatest-new value last x (λ s l. wider-above (value s) best.0 x (lt-by best.0 x h) (p.bound s l)) (λ s l. not-before value last best.0 x best.1 s p (lt-by best.0 x h) l) e
-greatest-by value last best x false h p e = greatest-still value last best.0 best.1 p (bound-of (λ v. v ≤ℤ best.0) (value (suc last)) x e (le-by best.0 x h))
+    greatest-new value last x (λ s l. wider-above (value s) best.0 x (less_of best.0 x h) (p.bound s l)) (λ s l. not-before value last best.0 x best.1 s p (less_of best.0 x h) l) e
+greatest-by value last best x false h p e = greatest-still value last best.0 best.1 p (bound-of (λ v. v ≤ℤ best.0) (value (suc last)) x e (not_less_of best.0 x h))
 
 greatest-more : (value : ℕ → Option ℤ) (last : ℕ) (best : Option (ℤ × ℕ)) (o : Option ℤ) → TellsGreatest value last best → value (suc last) ≡ o → TellsGreatest value (suc last) (greater_or best o (suc last))
 greatest-more value last None None p e = λ s l. elim (up-to s last l) [ inl a ↦ p s a | inr b ↦ ap value b ∙ e ]
@@ -180,8 +175,8 @@ not-below value last x y s t p h l = λ e. not-over y x h (bound-at (λ v. x ≤
 least-by : (value : ℕ → Option ℤ) (last : ℕ) (best : ℤ × ℕ) (x : ℤ) (b : Bool) → int_lt x best.0 ≡ b → IsSmallest value last best.0 best.1 → value (suc last) ≡ Some x
     → TellsLeast value (suc last) (if b then Some (x, suc last) else Some best)
 least-by value last best x true h p e =
-    least-new value last x (λ s l. wider-below (value s) best.0 x (lt-by x best.0 h) (p.bound s l)) (λ s l. not-below value last best.0 x best.1 s p (lt-by x best.0 h) l) e
-least-by value last best x false h p e = least-still value last best.0 best.1 p (bound-of (λ v. best.0 ≤ℤ v) (value (suc last)) x e (le-by x best.0 h))
+    least-new value last x (λ s l. wider-below (value s) best.0 x (less_of x best.0 h) (p.bound s l)) (λ s l. not-below value last best.0 x best.1 s p (less_of x best.0 h) l) e
+least-by value last best x false h p e = least-still value last best.0 best.1 p (bound-of (λ v. best.0 ≤ℤ v) (value (suc last)) x e (not_less_of x best.0 h))
 
 least-more : (value : ℕ → Option ℤ) (last : ℕ) (best : Option (ℤ × ℕ)) (o : Option ℤ) → TellsLeast value last best → value (suc last) ≡ o → TellsLeast value (suc last) (lesser_or best o (suc last))
 least-more value last None None p e = λ s l. elim (up-to s last l) [ inl a ↦ p s a | inr b ↦ ap value b ∙ e ]

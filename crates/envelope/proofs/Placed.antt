@@ -7,16 +7,7 @@ use Rattle.std.proofs.lemmas.List.Sums.{fails_before_first, passes_at_first}
 use Rattle.std.proofs.lemmas.Bool.Decides.{nat_tests}
 use Rattle.std.proofs.Math.Seq.{get_or-append_seam}
 use Rattle.envelope.specs.Cells.{no_span, has_place, is_within, end_of_span, span_of, IsRising, IsPlaced}
-
-any-cons : {X : Type 0} (p : X → Bool) (x : X) (xs : List X) (d : X) (b : Bool) → p x ≡ b → (b || list_any p xs) ≡ true
-    → (list_any p xs ≡ true → (i : ℕ) × (i < length xs) × (p (get_or xs i d) ≡ true))
-    → (i : ℕ) × (i < length (x ∷ xs)) × (p (get_or (x ∷ xs) i d) ≡ true)
-any-cons p x xs d true e h more = (0, omega arith, e)
-any-cons p x xs d false e h more = let r = more h in (suc r.0, (let l : r.0 < length xs = r.1 in omega arith), r.2)
-
-pub any-index : {X : Type 0} (p : X → Bool) (xs : List X) (d : X) → list_any p xs ≡ true → (i : ℕ) × (i < length xs) × (p (get_or xs i d) ≡ true)
-any-index p [] d h = cc
-any-index p (x ∷ xs) d h = any-cons p x xs d (p x) refl h (any-index p xs d)
+use Rattle.case_model.proofs.ListFacts.{any-index}
 
 has-bounds : (span : ℕ × ℕ) (place : ℕ) → has_place place span ≡ true → (span.0 ≤ place) × (place < span.0 + span.1)
 has-bounds span place h = (grind (arith, nat_tests), grind (arith, nat_tests))

@@ -1,7 +1,7 @@
 -- What a fold keeps that was told the rows of a law.
 use Rattle.std.proofs.Common.{◌≡◌, ◌≢◌, ◌∙◌, ℕ, ◌%◌, ◌<◌, ◌≤◌, ◌⊎◌, inl, inr, ℤ, refl, sym, ap, subst, Bool, true, false, List, [], ◌∷◌, length, map, get_or, Option, Some, None, arith, eq-eqb, ne_eqb}
 use Rattle.std.specs.Prelude.{◌≤ℤ◌, ◌<ℤ◌}
-use Rattle.std.proofs.lemmas.Bool.{false≢true, le-leb, lt-leb}
+use Rattle.std.proofs.lemmas.Bool.{false≢true, le-leb, lt-leb, false_from_ne_true}
 use Rattle.std.proofs.lemmas.Int.{ints}
 use Rattle.std.proofs.lemmas.List.{get_or_past, get_or-map, length-map}
 use Rattle.std.proofs.Math.Bool.{and-false}
@@ -120,14 +120,10 @@ noting-there : (r : Row) (at : ProbeAt) → is_bad_noting (Some (noting_at r at)
 noting-there r (OnNode node) b = state-there (r.state node) b
 noting-there r (OnPipe pipe place) b = point-there (r.point pipe place) b
 
-not-true : (b : Bool) → (b ≡ true → ⊥) → b ≡ false
-not-true true h = absurd (h refl)
-not-true false h = refl
-
 -- where there is no fault something is taken of each place at each step
 pub taken-there : (law : Meaning) (last s : ℕ) (at : ProbeAt) → IsNumbered law.mesh → IsOn law.mesh at → first_fault law last ≡ None → s ≤ last → taken_at (row law s) at ≢ None
 taken-there law last s at n h f l =
-    noting-there (row law s) at (noting-bad law s at n h ∙ not-true (get_or (bad_places law s) (number_of law.mesh at) false) (λ b. first_fault-None law last f s (number_of law.mesh at) l b))
+    noting-there (row law s) at (noting-bad law s at n h ∙ false_from_ne_true (get_or (bad_places law s) (number_of law.mesh at) false) (λ b. first_fault-None law last f s (number_of law.mesh at) l b))
 
 pub column-is : (law : Meaning) (s : ℕ) (at : ProbeAt) → IsNumbered law.mesh → IsOn law.mesh at → column (rows_noted law) (number_of law.mesh at) s ≡ taken_at (row law s) at
 column-is law s at n h = ap (λ p. taken (Some (noting_at (row law s) p))) (at-number law.mesh at n h) ∙ noting-taken (row law s) at

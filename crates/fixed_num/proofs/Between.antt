@@ -7,6 +7,7 @@ use Rattle.fixed_num.specs.Rounding.{half_up, rnd}
 use Rattle.std.specs.List.{AllByRecursion}
 use Rattle.fixed_num.specs.Tables.{entry_at, Rises, on_line, interp, IsBetween, IsInterpolated}
 use Rattle.fixed_num.proofs.Nearest.{half_up-parts, half_up-only}
+use Rattle.fixed_num.proofs.Orders.{not_less_at}
 
 le_or_more : (k m : ℕ) → (k ≤ m) ⊎ (m < k)
 le_or_more k m = grind arith
@@ -27,22 +28,22 @@ within_part k m x d h p = elim (le_or_more k m) [
 half_up-part : (m x d : ℕ) → x < d → half_up (m * x) d ≤ m
 half_up-part m x d h = within_part (half_up (m * x) d) m x d h (half_up-parts (m * x) d (omega arith)).0
 
-half_up-none : (d : ℕ) → 0 < d → half_up 0 d ≡ 0
+pub half_up-none : (d : ℕ) → 0 < d → half_up 0 d ≡ 0
 half_up-none d h = sym (half_up-only 0 0 d h (omega arith) (omega arith))
 
-rnd_up : (k d : ℕ) → rnd (pos k) (pos d) ≡ pos (half_up k d)
+pub rnd_up : (k d : ℕ) → rnd (pos k) (pos d) ≡ pos (half_up k d)
 unfolding rnd
 rnd_up k d = refl
 
-rnd_down : (k d : ℕ) → 0 < d → rnd (neg_ℤ (pos k)) (pos d) ≡ neg_ℤ (pos (half_up k d))
+pub rnd_down : (k d : ℕ) → 0 < d → rnd (neg_ℤ (pos k)) (pos d) ≡ neg_ℤ (pos (half_up k d))
 unfolding rnd
 rnd_down zero d h = ap pos (half_up-none d h) ∙ ap (λ (n : ℕ). neg_ℤ (pos n)) (sym (half_up-none d h))
 rnd_down (suc k) d h = let e : k + 1 ≡ suc k = omega arith in ap (λ (n : ℕ). neg_ℤ (pos (half_up n d))) e
 
-times_up : (m x : ℕ) → pos m *ℤ pos x ≡ pos (m * x)
+pub times_up : (m x : ℕ) → pos m *ℤ pos x ≡ pos (m * x)
 times_up m x = omega (arith, ints)
 
-times_down : (m x : ℕ) → negsuc m *ℤ pos x ≡ neg_ℤ (pos (suc m * x))
+pub times_down : (m x : ℕ) → negsuc m *ℤ pos x ≡ neg_ℤ (pos (suc m * x))
 times_down m zero = omega (arith, ints)
 times_down m (suc x) = omega (arith, ints)
 
@@ -98,9 +99,6 @@ first_least a (b ∷ points) (suc k) r h =
     let here = r 0 (omega arith) in
     omega (arith, ints, later, here)
 
-at_or_after : (t u : ℤ) → u ≤ℤ t → int_lt t u ≡ false
-at_or_after t u h = grind (arith, ints)
-
 before_it : (t u : ℤ) → t <ℤ u → int_lt t u ≡ true
 before_it t u h = grind (arith, ints)
 
@@ -110,13 +108,13 @@ pub on_segment : (points : List (ℤ × ℤ)) (t : ℤ) (k : ℕ) → Rises poin
 unfolding interp
 on_segment [] t k r h low high = absurd (omega (arith, h))
 on_segment (a ∷ []) t k r h low high = absurd (omega (arith, h))
-on_segment (a ∷ b ∷ points) t zero r h low high = rw (before_it t b.0 high) (rw (at_or_after t a.0 low) refl)
+on_segment (a ∷ b ∷ points) t zero r h low high = rw (before_it t b.0 high) (rw (not_less_at t a.0 low) refl)
 on_segment (a ∷ b ∷ points) t (suc k) r h low high =
     let later = first_least b points k (rises_on a b points r) (omega (arith, h)) in
     let e : suc k + 1 ≡ suc (k + 1) = omega arith in
     let after : t <ℤ (entry_at (b ∷ points) (k + 1)).0 = subst (λ (n : ℕ). t <ℤ (entry_at (a ∷ b ∷ points) n).0) e high in
     let same = ap (λ (n : ℕ). on_line (entry_at (b ∷ points) k) (entry_at (a ∷ b ∷ points) n) t) (sym e) in
-    rw (at_or_after t b.0 (omega (arith, ints, later, low))) (on_segment (b ∷ points) t k (rises_on a b points r) (omega (arith, h)) low after ∙ same)
+    rw (not_less_at t b.0 (omega (arith, ints, later, low))) (on_segment (b ∷ points) t k (rises_on a b points r) (omega (arith, h)) low after ∙ same)
 
 no_part : (rise : ℤ) (r : ℤ) → IsPart (pos 0) r → r ≡ pos 0
 no_part rise r p = let q = p.up (omega (arith, ints)) in omega (arith, ints, q.0, q.1)
@@ -142,7 +140,7 @@ same_or_before : (t u : ℤ) → t ≤ℤ u → (t ≡ u) ⊎ (t <ℤ u)
 same_or_before t u h = grind (arith, ints)
 
 first_segment : (a b : ℤ × ℤ) (t : ℤ) → a.0 <ℤ b.0 → (t ≡ a.0) ⊎ (t <ℤ a.0) → cond (int_lt t a.0) a.1 (on_line a b t) ≡ a.1
-first_segment a b t w (inl e) = rw (at_or_after t a.0 (omega (arith, ints, e))) (ap (λ (x : ℤ). on_line a b x) e ∙ at_start a b w)
+first_segment a b t w (inl e) = rw (not_less_at t a.0 (omega (arith, ints, e))) (ap (λ (x : ℤ). on_line a b x) e ∙ at_start a b w)
 first_segment a b t w (inr h) = rw (before_it t a.0 h) refl
 
 pub first_value : (a : ℤ × ℤ) (points : List (ℤ × ℤ)) (t : ℤ) → Rises (a ∷ points) → t ≤ℤ a.0 → interp (a ∷ points) t ≡ a.1
@@ -160,7 +158,7 @@ last_value (a ∷ b ∷ points) t s r h =
     let e : length (a ∷ b ∷ points) - 1 ≡ suc (length (b ∷ points) - 1) = omega arith in
     let after : (entry_at (b ∷ points) (length (b ∷ points) - 1)).0 ≤ℤ t = subst (λ (n : ℕ). (entry_at (a ∷ b ∷ points) n).0 ≤ℤ t) e h in
     let later = first_least b points (length (b ∷ points) - 1) (rises_on a b points r) (omega arith) in
-    rw (at_or_after t b.0 (omega (arith, ints, later, after)))
+    rw (not_less_at t b.0 (omega (arith, ints, later, after)))
     (last_value (b ∷ points) t (omega arith) (rises_on a b points r) after ∙ ap (λ (n : ℕ). (entry_at (a ∷ b ∷ points) n).1) (sym e))
 
 pub interp_points : (points : List (ℤ × ℤ)) (t : ℤ) → 0 < length points → Rises points → IsInterpolated points t (interp points t)

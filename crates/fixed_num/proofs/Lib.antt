@@ -5,4 +5,7 @@ pub mod Between
 pub mod Texts
 pub mod Back
 pub mod RootLaws
+pub mod Widths
 pub mod Spellings
+pub mod Orders
+pub mod Fits

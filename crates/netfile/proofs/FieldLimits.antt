@@ -24,6 +24,7 @@ use Rattle.case_lines.specs.Tables.{is_disordered}
 use Rattle.case_lines.specs.Alone.{breaks_number, breaks_field, breaks_fields, is_readable, breaks_counted, breaks_known, breaks_alone}
 use Rattle.case_rules.specs.Said.{line_at, version_of, said}
 use Rattle.case_rules.specs.Among.{directive_among, is_unknown, uses_unknown, breaks_counted as breaks_counted_among, breaks_among, breaks_line, line_rules}
+use Rattle.fixed_num.proofs.Orders.{at_most_of}
 
 -- what is known of a line with this directive among lines that break no rule
 pub record IsKept (lines : List (List (List ℕ))) (d : Directive) (fields : List (List ℕ)) : Type 0 where
@@ -191,14 +192,11 @@ all_at P (fields ∷ lines) f = (f 0 (omega arith), all_at P lines (λ k h. f (s
 pub all_kept : (lines : List (List (List ℕ))) → IsEmpty (line_rules lines) → AllByRecursion (IsLine lines) lines
 all_kept lines empty = all_at (IsLine lines) lines (λ k h. kept_at lines k h empty)
 
-pub le_of : (x y : ℤ) → int_le x y ≡ true → x ≤ℤ y
-le_of x y h = grind (arith, ints)
-
 -- a number that is spelt, and not outside its limits, lies within them
 within_of : (l : NumberLimits) (r : Result ℤ NumberFault) → is_spelt r ≡ true → is_outside l r ≡ false → IsWithin l.least l.most (number_or_zero r)
 within_of l (Ok x) s o =
     let t : (int_le l.least x && int_le x l.most) ≡ true = not-false _ o in
-    record { low = le_of l.least x (and_parts (int_le l.least x) (int_le x l.most) t).0; high = le_of x l.most (and_parts (int_le l.least x) (int_le x l.most) t).1 }
+    record { low = at_most_of l.least x (and_parts (int_le l.least x) (int_le x l.most) t).0; high = at_most_of x l.most (and_parts (int_le l.least x) (int_le x l.most) t).1 }
 within_of l (Err Spelling) s o = absurd (cc)
 within_of l (Err Places) s o = absurd (cc)
 within_of l (Err Large) s o = absurd (cc)

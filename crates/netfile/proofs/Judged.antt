@@ -53,7 +53,7 @@ pub accepted : (bytes : List ℕ) → length bytes ≤ 8_388_608 → IsEmpty (li
     → verdict bytes ≡ Ok (case_of (lines_of bytes), mesh_of (case_of (lines_of bytes)))
 accepted bytes h kept counts divided = short_verdict bytes None h (refusal_empty (lines_of bytes) (kept, (counts, divided)))
 
-some_pipe : (lines : List (List (List ℕ))) → IsEmpty (count_rules lines) → 0 < length (case_of lines).pipes
+pub some_pipe : (lines : List (List (List ℕ))) → IsEmpty (count_rules lines) → 0 < length (case_of lines).pipes
 unfolding case_of
 some_pipe lines counts = some_pipe_in lines counts
 

@@ -19,7 +19,7 @@ use Rattle.netfile.specs.Named.{IsNamed, IsPlaced}
 use Rattle.netfile.proofs.FieldLimits.{IsKept, IsLine, kept_at, field_kept}
 
 -- a new name
-new_name : (d : Directive) → is_some_part (named_by (Some d)) ≡ true → field_kind d 1 ≡ NewName
+pub new_name : (d : Directive) → is_some_part (named_by (Some d)) ≡ true → field_kind d 1 ≡ NewName
 unfolding field_kind
 new_name (OfSingle single) h = absurd (cc)
 new_name (OfTable kind) h = refl
@@ -28,7 +28,7 @@ new_name OfPipe h = refl
 new_name OfProbe h = absurd (cc)
 new_name OfWatch h = absurd (cc)
 
-short_name : (text : List ℕ) → breaks_field NewName text 10 ≡ false → length text ≤ 32
+pub short_name : (text : List ℕ) → breaks_field NewName text 10 ≡ false → length text ≤ 32
 unfolding breaks_field breaks_name
 short_name text h = grind (arith, nat_tests)
 

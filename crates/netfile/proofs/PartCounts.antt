@@ -1,5 +1,5 @@
 -- Of lines that break no rule on counts the parts are few, and there is a pipe.
-use Rattle.std.proofs.Common.{ℕ, ◌+◌, ◌<◌, ◌≤◌, ◌≡◌, ◌==◌, ◌||◌, not, nat_lt, Bool, true, false, IsTrue, cond, Option, Some, None, List, [], ◌∷◌, length, codes, ap, sym, subst, ◌∙◌, refl, arith}
+use Rattle.std.proofs.Common.{ℕ, ◌+◌, ◌<◌, ◌≤◌, ◌≡◌, ◌==◌, ◌||◌, not, nat_lt, Bool, false, cond, Option, Some, None, List, [], ◌∷◌, length, codes, ap, sym, subst, ◌∙◌, refl, arith}
 use Rattle.std.proofs.lemmas.Bool.{false_from_ne_true}
 use Rattle.std.specs.List.{list_any, cons_option}
 use Rattle.std.proofs.lemmas.List.Sums.{sum_by-cons}
@@ -14,13 +14,8 @@ use Rattle.case_lines.specs.declared.words.Directive.TheVariants.{OfSingle, OfTa
 use Rattle.case_rules.specs.Said.{said, is_single_of}
 use Rattle.case_rules.specs.Counts.{is_table, is_node, is_pipe, is_sampled, count_of, is_incomplete, is_too_large, count_rules}
 use Rattle.netfile.specs.Built.{table_by, table_said, tables_from, tables_of, node_by, node_said, nodes_from, nodes_of, pipe_by, pipe_said, pipes_from, pipes_of, probe_by, probe_said, probes_from, probes_of}
-
-one_if : Bool → ℕ
-one_if b = cond b 1 0
-
-count_more : (p : Option Directive → Bool) (fields : List (List ℕ)) (lines : List (List (List ℕ))) → count_of p (fields ∷ lines) ≡ one_if (p (said fields)) + count_of p lines
-unfolding count_of one_if
-count_more p fields lines = sum_by-cons (λ f. cond (p (said f)) 1 0) fields lines
+use Rattle.case_rules.specs.Tallies.{one_if}
+use Rattle.case_rules.proofs.Tallied.{count_more}
 
 count_none : (p : Option Directive → Bool) → 0 ≡ count_of p []
 unfolding count_of
@@ -31,7 +26,6 @@ add_same n a b e = ap (λ x. n + x) e
 
 -- a line is counted exactly where it says such a part
 table_one : (d : Option Directive) (line : ℕ) (fields : List (List ℕ)) (rest : List Table) → length (cons_option (table_by d line fields) rest) ≡ one_if (is_table d) + length rest
-unfolding one_if
 table_one None line fields rest = omega arith
 table_one (Some (OfSingle single)) line fields rest = omega arith
 table_one (Some (OfTable kind)) line fields rest = omega arith
@@ -41,7 +35,6 @@ table_one (Some OfProbe) line fields rest = omega arith
 table_one (Some OfWatch) line fields rest = omega arith
 
 node_one : (tables : List Table) (d : Option Directive) (line : ℕ) (fields : List (List ℕ)) (rest : List Node) → length (cons_option (node_by tables d line fields) rest) ≡ one_if (is_node d) + length rest
-unfolding one_if
 node_one tables None line fields rest = omega arith
 node_one tables (Some (OfSingle single)) line fields rest = omega arith
 node_one tables (Some (OfTable kind)) line fields rest = omega arith
@@ -51,7 +44,6 @@ node_one tables (Some OfProbe) line fields rest = omega arith
 node_one tables (Some OfWatch) line fields rest = omega arith
 
 pipe_one : (nodes : List Node) (d : Option Directive) (line : ℕ) (fields : List (List ℕ)) (rest : List Pipe) → length (cons_option (pipe_by nodes d line fields) rest) ≡ one_if (is_pipe d) + length rest
-unfolding one_if
 pipe_one nodes None line fields rest = omega arith
 pipe_one nodes (Some (OfSingle single)) line fields rest = omega arith
 pipe_one nodes (Some (OfTable kind)) line fields rest = omega arith
@@ -61,7 +53,6 @@ pipe_one nodes (Some OfProbe) line fields rest = omega arith
 pipe_one nodes (Some OfWatch) line fields rest = omega arith
 
 probe_one : (pipes : List Pipe) (nodes : List Node) (d : Option Directive) (line : ℕ) (fields : List (List ℕ)) (rest : List Probe) → length (cons_option (probe_by pipes nodes d line fields) rest) ≡ one_if (is_sampled d) + length rest
-unfolding one_if
 probe_one pipes nodes None line fields rest = omega arith
 probe_one pipes nodes (Some (OfSingle single)) line fields rest = omega arith
 probe_one pipes nodes (Some (OfTable kind)) line fields rest = omega arith

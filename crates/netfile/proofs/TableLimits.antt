@@ -22,7 +22,8 @@ use Rattle.case_lines.specs.Tables.{pair_count, pair_at, pairs_of, rises, falls,
 use Rattle.case_rules.specs.Said.{said}
 use Rattle.case_rules.specs.Among.{line_rules}
 use Rattle.netfile.specs.Built.{table_by, table_said, tables_from, tables_of}
-use Rattle.netfile.proofs.FieldLimits.{IsKept, IsLine, all_kept, field_kept, size_within, le_of}
+use Rattle.netfile.proofs.FieldLimits.{IsKept, IsLine, all_kept, field_kept, size_within}
+use Rattle.fixed_num.proofs.Orders.{less_of, at_most_of}
 
 -- so many fields make so many pairs
 record IsCount (least most n : ℕ) : Type 0 where
@@ -109,9 +110,6 @@ sorted_of kind fields some h =
           rw (point_is kind fields k (pos 0, pos 0) (omega arith), point_is kind fields (k + 1) (pos 0, pos 0) m) (following kind fields n k (may_follow kind (pair_at kind fields k) (pair_at kind fields (k + 1))) refl m f);
     }
 
-lt_of : (x y : ℤ) → int_lt x y ≡ true → x <ℤ y
-lt_of x y h = grind (arith, ints)
-
 rising : (kind : TableKind) (e f : ℤ × ℤ) → may_follow kind e f ≡ true → rises kind e.0 f.0 ≡ true
 unfolding may_follow
 rising kind e f h = (and_parts (rises kind e.0 f.0) (falls kind e.1 f.1) h).0
@@ -121,25 +119,25 @@ unfolding may_follow
 falling kind e f h = (and_parts (rises kind e.0 f.0) (falls kind e.1 f.1) h).1
 
 in_order : (kind : TableKind) (points : List (ℤ × ℤ)) → IsSorted kind points → IsInOrder kind points
-in_order Heads points s = λ k h. le_of _ _ (rising Heads (entry_at points k) (entry_at points (k + 1)) (s.follows k h))
-in_order Flows points s = λ k h. le_of _ _ (rising Flows (entry_at points k) (entry_at points (k + 1)) (s.follows k h))
-in_order Openings points s = λ k h. le_of _ _ (rising Openings (entry_at points k) (entry_at points (k + 1)) (s.follows k h))
-in_order Speeds points s = λ k h. le_of _ _ (rising Speeds (entry_at points k) (entry_at points (k + 1)) (s.follows k h))
+in_order Heads points s = λ k h. at_most_of _ _ (rising Heads (entry_at points k) (entry_at points (k + 1)) (s.follows k h))
+in_order Flows points s = λ k h. at_most_of _ _ (rising Flows (entry_at points k) (entry_at points (k + 1)) (s.follows k h))
+in_order Openings points s = λ k h. at_most_of _ _ (rising Openings (entry_at points k) (entry_at points (k + 1)) (s.follows k h))
+in_order Speeds points s = λ k h. at_most_of _ _ (rising Speeds (entry_at points k) (entry_at points (k + 1)) (s.follows k h))
 in_order Curve points s = (
   (Decides-int_eq (entry_at points 0).0 (pos 0)).0 s.begins,
-  λ k h. le_of _ _ (rising Curve (entry_at points k) (entry_at points (k + 1)) (s.follows k h)),
-  λ k h. lt_of _ _ (falling Curve (entry_at points k) (entry_at points (k + 1)) (s.follows k h)),
+  λ k h. at_most_of _ _ (rising Curve (entry_at points k) (entry_at points (k + 1)) (s.follows k h)),
+  λ k h. less_of _ _ (falling Curve (entry_at points k) (entry_at points (k + 1)) (s.follows k h)),
 )
 in_order Gas points s = (
-  λ k h. le_of _ _ (rising Gas (entry_at points k) (entry_at points (k + 1)) (s.follows k h)),
-  λ k h. lt_of _ _ (falling Gas (entry_at points k) (entry_at points (k + 1)) (s.follows k h)),
+  λ k h. at_most_of _ _ (rising Gas (entry_at points k) (entry_at points (k + 1)) (s.follows k h)),
+  λ k h. less_of _ _ (falling Gas (entry_at points k) (entry_at points (k + 1)) (s.follows k h)),
 )
 
 ordered_of : (kind : TableKind) (fields : List (List ℕ)) → is_disordered (OfTable kind) fields ≡ false → is_ordered kind fields ≡ true
 unfolding is_disordered
 ordered_of kind fields h = not-false (is_ordered kind fields) h
 
-least_some : (kind : TableKind) → 1 ≤ least_entries kind
+pub least_some : (kind : TableKind) → 1 ≤ least_entries kind
 least_some Heads = omega arith
 least_some Flows = omega arith
 least_some Openings = omega arith

@@ -31,7 +31,7 @@ use Rattle.netfile.proofs.NamesOnce.{name_once}
 eqb_same : (a b : ℕ) → (a == b) ≡ true → a ≡ b
 eqb_same a b h = grind (arith, nat_tests)
 
-false_true : (b : Bool) → b ≡ false → b ≡ true → ⊥
+pub false_true : (b : Bool) → b ≡ false → b ≡ true → ⊥
 false_true true h k = absurd (grind arith)
 false_true false h k = grind arith
 
@@ -120,7 +120,7 @@ unfolding has_count
 two_fields kind n h = let m = (and_parts (n % 2 == 0) (nat_le (2 * least_entries kind + 2) n) h).1 in grind (arith, nat_tests)
 
 -- no two lines define one name
-before_no : (lines : List (List (List ℕ))) (name : List ℕ) (j k : ℕ) → j < k → k < length lines → list_any (defines name) (take k lines) ≡ false → defines name (line_at lines j) ≡ true → ⊥
+pub before_no : (lines : List (List (List ℕ))) (name : List ℕ) (j k : ℕ) → j < k → k < length lines → list_any (defines name) (take k lines) ≡ false → defines name (line_at lines j) ≡ true → ⊥
 before_no lines name j k l h e d =
     false_true (list_any (defines name) (take k lines)) e (list_any_at (defines name) (take k lines) j [] (omega (arith, length-take-le k lines (omega arith))) (rw (get_or-take k lines j [] l) d))
 
@@ -137,29 +137,29 @@ defines_of number name fields h =
     (and_from (is_some_part (named_by (said fields))) (nat_lt 1 (length fields)) (some_numbered number (named_by (said fields)) (and_parts (has_number number (named_by (said fields))) (nat_lt 1 (length fields)) n).0) (and_parts (has_number number (named_by (said fields))) (nat_lt 1 (length fields)) n).1)
     (and_parts (has_number number (named_by (said fields)) && nat_lt 1 (length fields)) (bytes_eq (field fields 1) name) h).1
 
-some_directive : (o : Option Directive) → is_some_part (named_by o) ≡ true → (d : Directive) × (o ≡ Some d)
+pub some_directive : (o : Option Directive) → is_some_part (named_by o) ≡ true → (d : Directive) × (o ≡ Some d)
 some_directive None h = absurd (grind arith)
 some_directive (Some d) h = (d, refl)
 
-definition_of : (name : List ℕ) (fields : List (List ℕ)) → defines name fields ≡ true → is_definition fields ≡ true
+pub definition_of : (name : List ℕ) (fields : List (List ℕ)) → defines name fields ≡ true → is_definition fields ≡ true
 unfolding defines
 definition_of name fields h = (and_parts (is_definition fields) (bytes_eq (field fields 1) name) h).0
 
-name_of : (name : List ℕ) (fields : List (List ℕ)) → defines name fields ≡ true → field fields 1 ≡ name
+pub name_of : (name : List ℕ) (fields : List (List ℕ)) → defines name fields ≡ true → field fields 1 ≡ name
 unfolding defines
 name_of name fields h = (bytes_eq-Decides (field fields 1) name).0 (and_parts (is_definition fields) (bytes_eq (field fields 1) name) h).1
 
-directive_of_definition : (fields : List (List ℕ)) → is_definition fields ≡ true → (d : Directive) × (said fields ≡ Some d)
+pub directive_of_definition : (fields : List (List ℕ)) → is_definition fields ≡ true → (d : Directive) × (said fields ≡ Some d)
 unfolding is_definition
 directive_of_definition fields h = some_directive (said fields) (and_parts (is_some_part (named_by (said fields))) (nat_lt 1 (length fields)) h).0
 
-name_free : (lines : List (List (List ℕ))) → IsEmpty (line_rules lines) → (name : List ℕ) (k : ℕ) → k < length lines → defines name (line_at lines k) ≡ true → list_any (defines name) (take k lines) ≡ false
+pub name_free : (lines : List (List (List ℕ))) → IsEmpty (line_rules lines) → (name : List ℕ) (k : ℕ) → k < length lines → defines name (line_at lines k) ≡ true → list_any (defines name) (take k lines) ≡ false
 name_free lines empty name k h d =
     let i = definition_of name (line_at lines k) d in
     let s = directive_of_definition (line_at lines k) i in
     subst (λ (n : List ℕ). list_any (defines n) (take k lines) ≡ false) (name_of name (line_at lines k) d) (name_once lines empty k s.0 h s.1 i)
 
-only_one : (j k : ℕ) → (j < k → ⊥) → (k < j → ⊥) → j ≡ k
+pub only_one : (j k : ℕ) → (j < k → ⊥) → (k < j → ⊥) → j ≡ k
 only_one j k f g = grind (arith, f, g)
 
 same_place : (lines : List (List (List ℕ))) → IsEmpty (line_rules lines) → (name : List ℕ) (j k : ℕ) → j < length lines → k < length lines → defines name (line_at lines j) ≡ true → defines name (line_at lines k) ≡ true → j ≡ k

@@ -6,6 +6,7 @@ use Rattle.std.proofs.lemmas.Bool.Decides.{nat_tests}
 use Rattle.case_model.specs.declared.cases.Pipe.{Pipe}
 use Rattle.case_model.specs.Formulas.{cut, reach_count, b_of, r_of}
 use Rattle.case_model.specs.Division.{is_count, is_adjusted, are_accepted, has_coefficients, is_divided}
+use Rattle.fixed_num.proofs.Orders.{at_most_of}
 
 -- a count of reaches, an impedance and a friction that are accepted
 pub record IsAccepted (n : ℕ) (b r : ℤ) : Type 0 where
@@ -19,9 +20,6 @@ pub record IsAccepted (n : ℕ) (b r : ℤ) : Type 0 where
 kept : (most x : ℤ) → int_le x most ≡ true → cut most x ≡ x
 kept most x h = rw h refl
 
-le_of : (x y : ℤ) → int_le x y ≡ true → x ≤ℤ y
-le_of x y h = grind (arith, ints)
-
 pub accepted : (n : ℕ) (b r : ℤ) → is_count n ≡ true → are_accepted b r ≡ true → IsAccepted n b r
 unfolding are_accepted
 accepted n b r h k =
@@ -34,8 +32,8 @@ accepted n b r h k =
     record {
       some = grind (arith, nat_tests);
       few = grind (arith, nat_tests);
-      b_low = le_of (pos 100_000) b ((and_parts b1 b2 k2).0);
-      b_high = le_of b (pos 10_000_000_000_000) ((and_parts b1 b2 k2).1);
+      b_low = at_most_of (pos 100_000) b ((and_parts b1 b2 k2).0);
+      b_high = at_most_of b (pos 10_000_000_000_000) ((and_parts b1 b2 k2).1);
       b_cut = kept (pos 10_000_000_000_000) b ((and_parts b1 b2 k2).1);
       r_cut = kept (pos 100_000_000_000_000_000_000) r ((and_parts (b1 && b2 && r1) r2 k).1);
     }

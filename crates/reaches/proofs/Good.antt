@@ -22,6 +22,7 @@ use Rattle.case_model.specs.Refusals.{part_rules}
 use Rattle.reaches.proofs.Divided.{divided}
 use Rattle.std.proofs.lemmas.Bool.{or_right}
 use Rattle.case_model.proofs.Keeping.{all_divided}
+use Rattle.case_model.proofs.ListFacts.{passes}
 
 -- the ends of a node are those of pipes
 if_all : (P : End → Type 0) (b : Bool) (index : ℕ) (last : Bool) (xs : List End) → P (record { pipe = index; at_last = last }) → AllByRecursion P xs → AllByRecursion P (cons_option (end_if b index last) xs)
@@ -53,11 +54,6 @@ last_found : (k p index : ℕ) (ps : List Pipe) (j : ℕ) (d : Pipe) → j < len
 last_found k p index [] j d l e h = absurd (omega arith)
 last_found k p index (x ∷ ps) zero d l e h = any_behind (is_end p true) (end_if (x.first == k) index false) (cons_option (end_if (x.last == k) index true) (ends_at k (index + 1) ps)) (end_last p index (x.last == k) (ends_at k (index + 1) ps) (eq-eqb x.last k h) (omega arith))
 last_found k p index (x ∷ ps) (suc j) d l e h = any_behind (is_end p true) (end_if (x.first == k) index false) (cons_option (end_if (x.last == k) index true) (ends_at k (index + 1) ps)) (any_behind (is_end p true) (end_if (x.last == k) index true) (ends_at k (index + 1) ps) (last_found k p (index + 1) ps j d (omega arith) (omega arith) h))
-
--- where one of a list passes, the first that passes is there
-passes : {X : Type 0} (q : X → Bool) (xs : List X) (k : ℕ) (d : X) → k < length xs → q (get_or xs k d) ≡ true → position_or_len q xs < length xs
-passes q xs k d l h = elim (nat_lt (position_or_len q xs) (length xs)) as (λ b. nat_lt (position_or_len q xs) (length xs) ≡ b → position_or_len q xs < length xs)
-    [ true ↦ λ t. grind (arith, nat_tests) | false ↦ λ t. let f = fails_before_first q xs k d (let m : length xs ≤ position_or_len q xs = grind (arith, nat_tests) in omega arith) in cc ] refl
 
 ends_number : (case : Case) → length (mesh_of case).ends ≡ length case.nodes
 unfolding mesh_of

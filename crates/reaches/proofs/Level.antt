@@ -4,13 +4,11 @@ use Rattle.std.proofs.Math.IntN.{zero-*ℤ}
 use Rattle.std.proofs.lemmas.Int.{ints}
 use Rattle.std.proofs.lemmas.Nat.{div_below}
 use Rattle.fixed_num.specs.Rounding.{half_up, rnd}
-
-none_of : (d : ℕ) → 0 < d → half_up 0 d ≡ 0
-none_of d h = let b : half_up 0 d < 1 = div_below (2 * 0 + d) (2 * d) 1 (omega arith) (omega arith) in omega arith
+use Rattle.fixed_num.proofs.Between.{half_up-none}
 
 nothing : (d : ℕ) → 0 < d → rnd (pos 0) (pos d) ≡ pos 0
 unfolding rnd
-nothing d h = ap pos (none_of d h)
+nothing d h = ap pos (half_up-none d h)
 
 no_share : (difference place : ℤ) (reaches : ℕ) → difference ≡ pos 0 → 0 < reaches → rnd (difference *ℤ place) (pos reaches) ≡ pos 0
 no_share difference place reaches e some =

@@ -8,9 +8,6 @@ use Rattle.std.proofs.lemmas.Nat.{mul-le}
 use Rattle.case_model.specs.Formulas.{cut}
 use Rattle.case_model.specs.Division.{are_accepted}
 
-pub fits : (z : ℤ) → unsigned_abs z ≤ 1000000000000000000 → FitsSigned w64 z
-fits z h = fits_signed_from_abs w64 z (omega arith)
-
 -- a part of a whole is no larger than the whole
 part_below : (x n d i : ℕ) → 0 < n → i ≤ n → 2 * x * n ≤ 2 * (d * i) + n → x ≤ d
 part_below x n d i p k m =

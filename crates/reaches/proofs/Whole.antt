@@ -39,9 +39,6 @@ pub reaches_of_mesh : (case : Case) (p : ℕ) → (pipe_mesh case p).reaches ≡
 unfolding pipe_mesh
 reaches_of_mesh case p = refl
 
-pub listed_more : {X : Type 0} (f : ℕ → X) (n : ℕ) (xs ys : List X) (x : X) → xs ≡ map f (range_with_len 0 n) → ys ≡ xs ++ x ∷ [] → x ≡ f n → ys ≡ map f (range_with_len 0 (n + 1))
-listed_more f n xs ys x h e i = e ∙ ap (λ l. l ++ x ∷ []) h ∙ ap (λ y. map f (range_with_len 0 n) ++ y ∷ []) i ∙ sym (map-range_with_len_more f 0 n n (omega arith))
-
 -- too many places or samples are refused, on no line
 pub too_large : (case : Case) → is_too_large case ≡ true → IsLeast (size_rules case) 0 10
 unfolding size_rules

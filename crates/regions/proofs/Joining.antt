@@ -1,10 +1,10 @@
 -- Neighbouring strands have each other as sides.
-use Rattle.std.proofs.Common.{◌≡◌, ℕ, zero, suc, ◌+◌, ◌-◌, ◌<◌, ◌⊎◌, inl, inr, ◌==◌, not, Bool, true, false, List, [], ◌∷◌, length, get_or, refl, ap, subst, sym, ◌∙◌, add-one, arith}
-use Rattle.std.specs.Prelude.{if◌then◌else◌, ◌||◌}
+use Rattle.std.proofs.Common.{◌≡◌, ℕ, zero, suc, ◌+◌, ◌-◌, ◌<◌, ◌⊎◌, inl, inr, ◌==◌, not, Bool, true, false, List, [], length, refl, ap, subst, sym, ◌∙◌, add-one, arith}
+use Rattle.std.specs.Prelude.{if◌then◌else◌}
 use Rattle.std.specs.List.{list_any, position_or_len}
 use Rattle.std.proofs.lemmas.Bool.{and_parts, cases_lt, eqb-true}
 use Rattle.std.proofs.lemmas.List.Elements.{All-from_recursion}
-use Rattle.std.proofs.lemmas.List.Sums.{fails_before_first, passes_at_first}
+use Rattle.std.proofs.lemmas.List.Sums.{passes_at_first}
 use Rattle.case_model.specs.declared.meshes.End.{End}
 use Rattle.case_model.specs.declared.meshes.Mesh.{Mesh}
 use Rattle.case_model.specs.Mesh.{IsMesh, reaches, ends_of, is_end, end_node, end_index}
@@ -17,24 +17,9 @@ use Rattle.regions.proofs.Cutting.{sections-some}
 use Rattle.regions.proofs.Standing.{station-first, station-last, station-seam}
 use Rattle.regions.proofs.Strands.{IsOver, layout-over, shape-node, shape-seam, shape-section, strand, seam-inside, section-inside, node-inside}
 use Rattle.regions.proofs.Strands.Strand.{IsNode, IsSeam, IsSection}
+use Rattle.case_model.proofs.ListFacts.{any-index, passes}
 
 -- ---- the end of a pipe at its node
-
-any-cons : {X : Type 0} (p : X → Bool) (x : X) (xs : List X) (d : X) (b : Bool) → p x ≡ b → (b || list_any p xs) ≡ true
-    → (list_any p xs ≡ true → (i : ℕ) × (i < length xs) × (p (get_or xs i d) ≡ true))
-    → (i : ℕ) × (i < length (x ∷ xs)) × (p (get_or (x ∷ xs) i d) ≡ true)
-any-cons p x xs d true e h more = (0, omega arith, e)
-any-cons p x xs d false e h more = let r = more h in (suc r.0, (let l : r.0 < length xs = r.1 in omega arith), r.2)
-
-pub any-index : {X : Type 0} (p : X → Bool) (xs : List X) (d : X) → list_any p xs ≡ true → (i : ℕ) × (i < length xs) × (p (get_or xs i d) ≡ true)
-any-index p [] d h = cc
-any-index p (x ∷ xs) d h = any-cons p x xs d (p x) refl h (any-index p xs d)
-
-pub passes : {X : Type 0} (q : X → Bool) (xs : List X) (k : ℕ) (d : X) → k < length xs → q (get_or xs k d) ≡ true → position_or_len q xs < length xs
-passes q xs k d l h = elim (cases_lt (position_or_len q xs) (length xs)) [
-  | inl b ↦ b
-  | inr b ↦ let f = fails_before_first q xs k d (omega arith) in absurd (grind (arith, h, f))
-]
 
 pub any-position : {X : Type 0} (p : X → Bool) (xs : List X) (d : X) → list_any p xs ≡ true → position_or_len p xs < length xs
 any-position p xs d h = let r = any-index p xs d h in passes p xs r.0 d r.1 r.2

@@ -1,12 +1,9 @@
 -- Lists that grow by one item, or by one piece.
 use Rattle.std.proofs.Common.{◌≡◌, ℕ, ◌+◌, List, [], ◌∷◌, ◌++◌, map, ap, sym, ◌∙◌, arith, append_assoc}
 use Rattle.std.specs.List.{flat_map, range_with_len}
-use Rattle.std.proofs.lemmas.List.{map-id, flat_map_more}
+use Rattle.std.proofs.lemmas.List.{flat_map_more}
 use Rattle.std.proofs.lemmas.List.FromFn.{map-range_with_len_more}
-
-pub range_more : (n : ℕ) → range_with_len 0 (n + 1) ≡ range_with_len 0 n ++ n ∷ []
-range_more n =
-    sym (map-id (range_with_len 0 (n + 1))) ∙ map-range_with_len_more (λ x. x) 0 n n (omega arith) ∙ ap (λ l. l ++ n ∷ []) (map-id (range_with_len 0 n))
+use Rattle.case_model.proofs.PlaceLaws.{range_more}
 
 pub items_more : {X : Type 0} (f : ℕ → X) (n : ℕ) (base xs ys : List X) (v : X) → xs ≡ base ++ map f (range_with_len 0 n) → ys ≡ xs ++ v ∷ [] → v ≡ f n → ys ≡ base ++ map f (range_with_len 0 (n + 1))
 items_more f n base xs ys v e h k =

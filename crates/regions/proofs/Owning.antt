@@ -21,13 +21,13 @@ use Rattle.regions.specs.Layouts.{sections_at, section_number, station_number, s
 use Rattle.regions.specs.Regions.{InStation, InSection, InStationBy, InStations, InShape, InRegion, part_of, section_of, Owner, owner_by, place_owner, owner_of, HasSpot, IsPartition}
 use Rattle.regions.specs.Sides.{shape_at}
 use Rattle.regions.proofs.Cutting.{sections-some, cut-next, cut-more, cut-last, reaches-long}
-use Rattle.regions.proofs.Joining.{passes}
 use Rattle.regions.proofs.Parting.{window_is, window_of_step, left_part, right_part, section_part, somewhere}
 use Rattle.regions.proofs.Parting.Somewhere.{InOwn, InLeft, InRight}
 use Rattle.regions.proofs.Standing.{station-first, station-last, station-seam}
 use Rattle.regions.proofs.Strands.{shape-node, shape-seam, shape-section, strand, seam-inside, section-inside, node-inside}
 use Rattle.regions.proofs.Strands.Strand.{IsNode, IsSeam, IsSection}
 use Rattle.regions.proofs.Whole.{IsFitted, fitted}
+use Rattle.case_model.proofs.ListFacts.{passes}
 
 -- ---- the section of a place
 

@@ -2,7 +2,7 @@
 use Rattle.std.proofs.Common.{◌≡◌, ℕ, zero, suc, ◌+◌, ◌*◌, ◌<◌, ◌≤◌, ◌==◌, ◌&&◌, not, Bool, true, false, List, [], ◌∷◌, length, get_or, refl, ap, subst, sym, ◌∙◌, arith, eq-eqb}
 use Rattle.std.specs.Prelude.{if◌then◌else◌}
 use Rattle.std.specs.List.{AllByRecursion, cons_option, list_any, position_or_len}
-use Rattle.std.proofs.lemmas.Bool.{eqb-true}
+use Rattle.std.proofs.lemmas.Bool.{eqb-true, false_from_ne_true}
 use Rattle.std.proofs.lemmas.List.Elements.{All-from_recursion}
 use Rattle.std.proofs.lemmas.List.Folds.{list_any_at}
 use Rattle.std.proofs.lemmas.List.Sums.{position_or_len_is}
@@ -15,7 +15,8 @@ use Rattle.case_model.specs.Mesh.{is_end, ends_of, end_node, end_index}
 use Rattle.case_model.specs.Parts.{no_pipe}
 use Rattle.case_model.proofs.Keeping.{parts}
 use Rattle.regions.specs.Sides.{no_end, end_at, IsWired}
-use Rattle.regions.proofs.Joining.{any-index, end-is}
+use Rattle.regions.proofs.Joining.{end-is}
+use Rattle.case_model.proofs.ListFacts.{any-index}
 
 -- ---- the ends of a node stand in order of pipes, place 0 first
 
@@ -61,15 +62,11 @@ flag false = refl
 is_self : (e : End) → is_end e.pipe e.at_last e ≡ true
 is_self e = rw (eq-eqb e.pipe e.pipe refl) (flag e.at_last)
 
-not_true : (b : Bool) → (b ≡ true → ⊥) → b ≡ false
-not_true true h = absurd (h refl)
-not_true false h = refl
-
 found_again : (a : ℕ) (xs : List End) (j : ℕ) → Rising a xs → j < length xs → position_or_len (is_end (get_or xs j no_end).pipe (get_or xs j no_end).at_last) xs ≡ j
 found_again a xs j r h =
     let e = get_or xs j no_end in
     position_or_len_is (is_end e.pipe e.at_last) xs j no_end (omega arith)
-    (λ i l. not_true _ (λ t.
+    (λ i l. false_from_ne_true _ (λ t.
     let s = end-is e.pipe e.at_last (get_or xs i no_end) t in
     let m = rank-less a xs i j no_end r l h in
     let q : rank (get_or xs i no_end).pipe (get_or xs i no_end).at_last ≡ rank e.pipe e.at_last = ap (λ (x : End). rank x.pipe x.at_last) s in
@@ -114,7 +111,7 @@ node_again case k j h l =
     let test = list_any (is_end e.pipe e.at_last) in
     let n = (parts case).nodes in
     position_or_len_is test (mesh_of case).ends k [] (omega arith)
-    (λ i b. not_true _ (λ t.
+    (λ i b. false_from_ne_true _ (λ t.
     let s = only_there case i e.pipe e.at_last (subst (λ (xs : List End). test xs ≡ true) ((parts case).ends i (omega arith)) t) in
     let m = stands case k j l in
     absurd (omega arith)))

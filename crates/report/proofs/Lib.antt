@@ -1,4 +1,3 @@
-pub mod Widths
 pub mod Runs
 pub mod Pieces
 pub mod Numbers

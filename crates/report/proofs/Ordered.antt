@@ -11,20 +11,10 @@ use Rattle.case_model.specs.declared.cases.ProbeAt.{ProbeAt}
 use Rattle.case_model.specs.declared.cases.ProbeAt.TheVariants.{OnPipe, OnNode}
 use Rattle.case_model.specs.declared.meshes.Mesh.{Mesh}
 use Rattle.report.specs.Places.{IsBefore, IsOnPipe, pipe_places, places_of_pipe}
+use Rattle.case_model.proofs.PlaceLaws.{range_more}
+use Rattle.case_model.proofs.ListFacts.{all_left, all_right}
 
 -- ---- parts of lists
-
-pub all_left : {X : Type 0} (P : X → Type 0) (xs ys : List X) → All P (xs ++ ys) → All P xs
-all_left P [] ys h = All-nil P
-all_left P (x ∷ xs) ys h = All-cons P x xs (All-head P x (xs ++ ys) h) (all_left P xs ys (All-tail P x (xs ++ ys) h))
-
-pub all_right : {X : Type 0} (P : X → Type 0) (xs ys : List X) → All P (xs ++ ys) → All P ys
-all_right P [] ys h = h
-all_right P (x ∷ xs) ys h = all_right P xs ys (All-tail P x (xs ++ ys) h)
-
-pub all_both : {X : Type 0} (P Q : X → Type 0) (xs : List X) → All P xs → All Q xs → All (λ x. P x × Q x) xs
-all_both P Q [] h k = All-nil (λ x. P x × Q x)
-all_both P Q (x ∷ xs) h k = All-cons (λ y. P y × Q y) x xs (All-head P x xs h, All-head Q x xs k) (all_both P Q xs (All-tail P x xs h) (All-tail Q x xs k))
 
 -- ---- all of a range
 
@@ -114,10 +104,6 @@ first-pipe_place mesh h = first_of_pipes mesh (length mesh.pipes) h
 
 pub folded_place : {B : Type 0} (h : B → ProbeAt → B) (b : B) (p i : ℕ) → fold h b (map (OnPipe p) (range_with_len 0 (i + 1))) ≡ h (fold h b (map (OnPipe p) (range_with_len 0 i))) (OnPipe p i)
 folded_place h b p i = ap (fold h b) (map-range_with_len_more (OnPipe p) 0 i i (omega arith)) ∙ fold-append h b (map (OnPipe p) (range_with_len 0 i)) (OnPipe p i ∷ [])
-
-range_more : (n : ℕ) → range_with_len 0 (n + 1) ≡ range_with_len 0 n ++ n ∷ []
-range_more n =
-    sym (map-id (range_with_len 0 (n + 1))) ∙ map-range_with_len_more (λ x. x) 0 n n (omega arith) ∙ ap (λ l. l ++ n ∷ []) (map-id (range_with_len 0 n))
 
 one_pipe_more : (mesh : Mesh) (p : ℕ) → flat_map (places_of_pipe mesh) (range_with_len 0 (p + 1)) ≡ flat_map (places_of_pipe mesh) (range_with_len 0 p) ++ places_of_pipe mesh p
 one_pipe_more mesh p =

@@ -9,7 +9,8 @@ use Rattle.envelope.specs.declared.extremes.Extreme.{Extreme}
 use Rattle.report.specs.Peaks.{IsHighest, IsLowest, StandsAbove, StandsBelow, first_unpassed, highest, is_above, is_below, lowest}
 use Rattle.report.specs.Places.{IsBefore, IsOnPipe, pipe_places}
 use Rattle.report.proofs.Leading.{IsLed, IsMore, IsNoMore, IsOrder, above-order, below-order, chosen, first-is_led, led-from_first, more_above, more_below, no_more_above, no_more_below}
-use Rattle.report.proofs.Ordered.{all_both, all_left, all_right, all-pipe_places, first-pipe_place, one-pipe_place, sorted-after, sorted-pipe_places, IsSorted}
+use Rattle.report.proofs.Ordered.{all-pipe_places, first-pipe_place, one-pipe_place, sorted-after, sorted-pipe_places, IsSorted}
+use Rattle.case_model.proofs.ListFacts.{all_left, all_right, all_both}
 
 -- the place that leads the places of pipes is the first that no other passes
 led_places : (passes : Extreme → Extreme → Bool) (extremes : ProbeAt → Extreme) (mesh : Mesh) → IsOrder passes → 0 < length mesh.pipes → IsLed passes extremes (pipe_places mesh) (first_unpassed passes extremes (pipe_places mesh))

@@ -89,14 +89,3 @@ front_in_fourth a b c d e wa wb wc wd first second third fourth whole same f g h
     (Adds-then a c d wa wc wd (first ++ second) third (Adds-then a b c wa wb wc first second f g) h) k
 
 -- ---- a whole text through a new page
-
-pub whole_text : (before mid now : Option (List ℕ)) (new between text : List ℕ)
-    → Passes before before new [] → Adds before new mid between text → Finishes mid between now → Appends before now text
-whole_text before mid now new between text b h f = f before text (h before [] b)
-
-pub front_of_text : (before now : Option (List ℕ)) (new text : List ℕ) → Passes before before new [] → AddsFront before new now text → AppendsFront before now text
-front_of_text before now new text b h = subst (λ (whole : List ℕ). AppendsFront before now whole) (append-nil text) (h before [] [] b)
-
-pub front_at_the_end : (before mid now : Option (List ℕ)) (new between text : List ℕ)
-    → Passes before before new [] → Adds before new mid between text → FinishesFront mid between now → AppendsFront before now text
-front_at_the_end before mid now new between text b h f = subst (λ (whole : List ℕ). AppendsFront before now whole) (append-nil text) (f before text [] (h before [] b))

@@ -13,17 +13,13 @@ use Rattle.case_rules.specs.Counts.{count_rules}
 use Rattle.case_writing.specs.CaseText.{case_text}
 use Rattle.netfile.specs.Built.{case_of}
 use Rattle.netfile.specs.Verdict.{all_passes, refusal_of, judged, too_long, verdict}
-use Rattle.netfile.proofs.Judged.{refusal_first}
+use Rattle.netfile.proofs.Judged.{refusal_first, some_pipe}
 use Rattle.netfile.proofs.PartCounts.{some_pipe_in}
 use Rattle.netfile.proofs.Readable.{is_read}
 use Rattle.round_trip.specs.Renumbered.{renumbered}
 use Rattle.round_trip.specs.Writable.{IsWritable}
 use Rattle.round_trip.proofs.LawBack.{mesh_reads_back}
 use Rattle.round_trip.proofs.NamesKept.{names_spelt, names_apart}
-
-some_pipe : (lines : List (List (List ℕ))) → IsEmpty (count_rules lines) → 0 < length (case_of lines).pipes
-unfolding case_of
-some_pipe lines counts = some_pipe_in lines counts
 
 -- the case of lines that the four passes accept
 pub lines_writable : (lines : List (List (List ℕ))) → IsEmpty (line_rules lines) → IsEmpty (count_rules lines) → AreEmpty (passes (case_of lines)) → IsWritable (case_of lines)

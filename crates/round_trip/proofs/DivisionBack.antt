@@ -24,12 +24,12 @@ use Rattle.case_model.specs.Refusals.{is_through, valve_over, is_outside, exceed
 use Rattle.round_trip.specs.Renumbered.{first_part, tables_on, nodes_on, pipes_on, probes_on, renumbered}
 
 -- what doesn't hang on the line of a part
-pipe_kept : {Y : Type 0} (f : Pipe → Y) → ((p : Pipe) (line : ℕ) → f (record p { line = line }) ≡ f p) → (line : ℕ) (ps : List Pipe) (k : ℕ) → f (get_or (pipes_on line ps) k no_pipe) ≡ f (get_or ps k no_pipe)
+pub pipe_kept : {Y : Type 0} (f : Pipe → Y) → ((p : Pipe) (line : ℕ) → f (record p { line = line }) ≡ f p) → (line : ℕ) (ps : List Pipe) (k : ℕ) → f (get_or (pipes_on line ps) k no_pipe) ≡ f (get_or ps k no_pipe)
 pipe_kept f s line [] k = refl
 pipe_kept f s line (p ∷ ps) zero = s p line
 pipe_kept f s line (p ∷ ps) (suc k) = pipe_kept f s (line + 1) ps k
 
-node_kept : {Y : Type 0} (f : Node → Y) → ((n : Node) (line : ℕ) → f (record n { line = line }) ≡ f n) → (line : ℕ) (ns : List Node) (k : ℕ) → f (get_or (nodes_on line ns) k no_node) ≡ f (get_or ns k no_node)
+pub node_kept : {Y : Type 0} (f : Node → Y) → ((n : Node) (line : ℕ) → f (record n { line = line }) ≡ f n) → (line : ℕ) (ns : List Node) (k : ℕ) → f (get_or (nodes_on line ns) k no_node) ≡ f (get_or ns k no_node)
 node_kept f s line [] k = refl
 node_kept f s line (n ∷ ns) zero = s n line
 node_kept f s line (n ∷ ns) (suc k) = node_kept f s (line + 1) ns k
@@ -99,15 +99,15 @@ pipe_breaks_kept : (case : Case) (p number : ℕ) → breaks_pipe (renumbered ca
 unfolding renumbered
 pipe_breaks_kept case p number = pipe_kept (λ (x : Pipe). breaks_pipe case.dt case.tolerance x number) (breaks_same case.dt case.tolerance number) (first_part case.version + length case.tables + length case.nodes) case.pipes p
 
-gas_kept : (case : Case) (t : ℕ) → (table_at (renumbered case) t).points ≡ (table_at case t).points
+pub gas_kept : (case : Case) (t : ℕ) → (table_at (renumbered case) t).points ≡ (table_at case t).points
 unfolding renumbered
 gas_kept case t = points_kept (first_part case.version) case.tables t
 
-kind_kept : (case : Case) (k : ℕ) → (node_at (renumbered case) k).kind ≡ (node_at case k).kind
+pub kind_kept : (case : Case) (k : ℕ) → (node_at (renumbered case) k).kind ≡ (node_at case k).kind
 unfolding renumbered
 kind_kept case k = node_kept (λ (n : Node). n.kind) (λ n line. refl) (first_part case.version + length case.tables) case.nodes k
 
-at_kept : (case : Case) (q : ℕ) → (probe_at (renumbered case) q).at ≡ (probe_at case q).at
+pub at_kept : (case : Case) (q : ℕ) → (probe_at (renumbered case) q).at ≡ (probe_at case q).at
 unfolding renumbered
 at_kept case q = spot_kept (first_part case.version + length case.tables + length case.nodes + length case.pipes) case.probes q
 

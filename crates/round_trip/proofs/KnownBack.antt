@@ -20,12 +20,7 @@ use Rattle.round_trip.proofs.CaseBack.{table_rest, node_rest, pipe_rest, probe_r
 use Rattle.round_trip.proofs.Directives.{of_table, of_node, of_pipe}
 use Rattle.round_trip.proofs.FieldsFit.{AreKnown}
 use Rattle.round_trip.proofs.Indices.{same_name}
-
-all_front : {X : Type 0} (P : X → Type 0) (xs ys : List X) → All P (xs ++ ys) → All P xs
-all_front {X} P xs ys h k d l = subst (λ (x : X). P x) (get_or_append_left xs ys d k l) (h k d (let e = length-append xs ys in omega arith))
-
-all_back : {X : Type 0} (P : X → Type 0) (xs ys : List X) → All P (xs ++ ys) → All P ys
-all_back {X} P xs ys h k d l = subst (λ (x : X). P x) (get_or-append-add xs ys k d) (h (length xs + k) d (let e = length-append xs ys in omega arith))
+use Rattle.case_model.proofs.ListFacts.{all_left, all_right}
 
 all_of_map : {X : Type 0} (name_of : X → List ℕ) (xs : List X) → All IsNameText (map name_of xs) → All (λ x. IsNameText (name_of x)) xs
 all_of_map name_of xs h k d l = subst IsNameText (get_or-map name_of xs k d (name_of d) l) (h k (name_of d) (omega (arith, length-names name_of xs)))
@@ -42,9 +37,9 @@ parts_named case h =
     let ts = map (λ (t : Table). t.name) case.tables in
     let ns = map (λ (n : Node). n.name) case.nodes in
     let ps = map (λ (p : Pipe). p.name) case.pipes in record {
-      tables = all_of_map (λ (t : Table). t.name) case.tables (all_front IsNameText ts ns (all_front IsNameText (ts ++ ns) ps h));
-      nodes = all_of_map (λ (n : Node). n.name) case.nodes (all_back IsNameText ts ns (all_front IsNameText (ts ++ ns) ps h));
-      pipes = all_of_map (λ (p : Pipe). p.name) case.pipes (all_back IsNameText (ts ++ ns) ps h);
+      tables = all_of_map (λ (t : Table). t.name) case.tables (all_left IsNameText ts ns (all_left IsNameText (ts ++ ns) ps h));
+      nodes = all_of_map (λ (n : Node). n.name) case.nodes (all_right IsNameText ts ns (all_left IsNameText (ts ++ ns) ps h));
+      pipes = all_of_map (λ (p : Pipe). p.name) case.pipes (all_right IsNameText (ts ++ ns) ps h);
     }
 
 -- a part's own line defines its name

@@ -33,6 +33,7 @@ use Rattle.round_trip.specs.Writable.{IsNameText}
 use Rattle.round_trip.proofs.Directives.{kind_word, spot_directive, of_table, of_node, of_pipe, of_probe}
 use Rattle.round_trip.proofs.TablesBack.{first_field, second_field, length_pairs, pair_back, pairs_counted}
 use Rattle.round_trip.proofs.FieldsFit.{IsFit, AreKnown, IsAmount, new_fit, node_fit, pipe_fit, reference_fit, amount_fit, value_fit, above, sized}
+use Rattle.netfile.proofs.TableLimits.{least_some}
 
 -- a line that breaks no rule by itself, and whose fields name what is there
 pub record IsFitLine (all : List (List (List ℕ))) (d : Directive) (fields : List (List ℕ)) : Type 0 where
@@ -333,14 +334,6 @@ all_from : (p : ℕ → Bool) (i n : ℕ) → ((k : ℕ) → i ≤ k → k < i +
 all_from p i zero f = refl
 all_from p i (suc n) f = and_from (p i) (list_all p (range_with_len (i + 1) n)) (f i (omega arith) (omega arith)) (all_from p (i + 1) n (λ k a l. f k (omega arith) (omega arith)))
 
-some_points : (kind : TableKind) → 1 ≤ least_entries kind
-some_points Heads = omega arith
-some_points Flows = omega arith
-some_points Openings = omega arith
-some_points Speeds = omega arith
-some_points Curve = omega arith
-some_points Gas = omega arith
-
 follow_fit : (kind : TableKind) (word name : List ℕ) (points : List (ℤ × ℤ)) → All (IsEntry kind) points → IsInOrder kind points → follow kind (word ∷ name ∷ flat_map (entry_fields kind) points) (length points) ≡ true
 unfolding follow
 follow_fit kind word name points e h =
@@ -368,6 +361,6 @@ table_line_fit all t h name =
       some = omega arith;
       count = and_from (length (table_line t) % 2 == 0) (nat_le (2 * least_entries t.kind + 2) (length (table_line t))) (eq-eqb (length (table_line t) % 2) 0 (omega arith)) (le-leb (2 * least_entries t.kind + 2) (length (table_line t)) (omega arith));
       few = le-ltb (2 * most_entries t.kind + 2) (length (table_line t)) (omega arith);
-      ordered = rw (ordered_fit t.kind _ t.name t.points (let l = some_points t.kind in omega arith) h.entries h.sorted) refl;
+      ordered = rw (ordered_fit t.kind _ t.name t.points (let l = least_some t.kind in omega arith) h.entries h.sorted) refl;
       fit = table_fields_fit all t.kind _ t.name t.points h.entries (new_fit all t.name name);
     }

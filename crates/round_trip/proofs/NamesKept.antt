@@ -26,15 +26,8 @@ use Rattle.netfile.proofs.NamesOnce.{name_once}
 use Rattle.round_trip.specs.Writable.{IsNameText, AreApart, case_names}
 use Rattle.round_trip.proofs.Apart.{AreNew, apart_append, new_of_both}
 use Rattle.round_trip.proofs.NamesGiven.{names_by, table_names, node_names, pipe_names, AreOnce, AreDefining, all_given, apart_given, new_given}
-
-false_true : (b : Bool) → b ≡ false → b ≡ true → ⊥
-false_true true h k = absurd (grind arith)
-false_true false h k = grind arith
-
--- a directive of a kind of named parts
-some_directive : (o : Option Directive) → is_some_part (named_by o) ≡ true → (d : Directive) × (o ≡ Some d)
-some_directive None h = absurd (cc)
-some_directive (Some d) h = (d, refl)
+use Rattle.netfile.proofs.Naming.{new_name, short_name}
+use Rattle.netfile.proofs.TableNames.{false_true, before_no, some_directive, definition_of, name_of, directive_of_definition, name_free, only_one}
 
 abbrev AreParts : (Option Directive → Bool) → Type 0
 AreParts p = (o : Option Directive) → p o ≡ true → is_some_part (named_by o) ≡ true
@@ -97,16 +90,6 @@ node_no_pipe (Some OfPipe) h k = false_true false refl h
 node_no_pipe (Some OfProbe) h k = false_true false refl h
 node_no_pipe (Some OfWatch) h k = false_true false refl h
 
--- a line of such a directive has a name as its second field
-new_name : (d : Directive) → is_some_part (named_by (Some d)) ≡ true → field_kind d 1 ≡ NewName
-unfolding field_kind
-new_name (OfSingle single) h = absurd (cc)
-new_name (OfTable kind) h = refl
-new_name (OfNode node) h = refl
-new_name OfPipe h = refl
-new_name OfProbe h = absurd (cc)
-new_name OfWatch h = absurd (cc)
-
 two_fields : (d : Directive) (n : ℕ) → is_some_part (named_by (Some d)) ≡ true → has_count d n ≡ true → 1 < n
 unfolding has_count
 two_fields (OfSingle single) n h k = absurd (cc)
@@ -119,10 +102,6 @@ two_fields OfWatch n h k = absurd (cc)
 spelt_name : (text : List ℕ) → breaks_field NewName text 4 ≡ false → IsTrue (is_name text)
 unfolding breaks_field breaks_name
 spelt_name text h = not-false (is_name text) (or_parts (not (is_name text)) false h).0
-
-short_name : (text : List ℕ) → breaks_field NewName text 10 ≡ false → length text ≤ 32
-unfolding breaks_field breaks_name
-short_name text h = grind (arith, nat_tests)
 
 name_text : (lines : List (List (List ℕ))) (d : Directive) (fields : List (List ℕ)) → is_some_part (named_by (Some d)) ≡ true → IsKept lines d fields → IsNameText (field fields 1)
 name_text lines d fields h k =
@@ -153,35 +132,9 @@ defined_on p lines part empty k h s =
     let d = some_directive (said (line_at lines k)) n in
     defines_own lines d.0 (line_at lines k) d.1 (subst (λ (o : Option Directive). is_some_part (named_by o) ≡ true) d.1 n) (kept_at lines k h empty d.0 d.1)
 
--- no two lines define one name
-before_no : (lines : List (List (List ℕ))) (name : List ℕ) (j k : ℕ) → j < k → k < length lines → list_any (defines name) (take k lines) ≡ false → defines name (line_at lines j) ≡ true → ⊥
-before_no lines name j k l h e d =
-    false_true (list_any (defines name) (take k lines)) e (list_any_at (defines name) (take k lines) j [] (omega (arith, length-take-le k lines (omega arith))) (rw (get_or-take k lines j [] l) d))
-
-definition_of : (name : List ℕ) (fields : List (List ℕ)) → defines name fields ≡ true → is_definition fields ≡ true
-unfolding defines
-definition_of name fields h = (and_parts (is_definition fields) (bytes_eq (field fields 1) name) h).0
-
-name_of : (name : List ℕ) (fields : List (List ℕ)) → defines name fields ≡ true → field fields 1 ≡ name
-unfolding defines
-name_of name fields h = (bytes_eq-Decides (field fields 1) name).0 (and_parts (is_definition fields) (bytes_eq (field fields 1) name) h).1
-
-definer : (fields : List (List ℕ)) → is_definition fields ≡ true → (d : Directive) × (said fields ≡ Some d)
-unfolding is_definition
-definer fields h = some_directive (said fields) (and_parts (is_some_part (named_by (said fields))) (nat_lt 1 (length fields)) h).0
-
-name_free : (lines : List (List (List ℕ))) → IsEmpty (line_rules lines) → (name : List ℕ) (k : ℕ) → k < length lines → defines name (line_at lines k) ≡ true → list_any (defines name) (take k lines) ≡ false
-name_free lines empty name k h d =
-    let i = definition_of name (line_at lines k) d in
-    let s = definer (line_at lines k) i in
-    subst (λ (n : List ℕ). list_any (defines n) (take k lines) ≡ false) (name_of name (line_at lines k) d) (name_once lines empty k s.0 h s.1 i)
-
-neither_less : (j k : ℕ) → (j < k → ⊥) → (k < j → ⊥) → j ≡ k
-neither_less j k f g = grind (arith, f, g)
-
 once_on : (lines : List (List (List ℕ))) → IsEmpty (line_rules lines) → AreOnce lines
 once_on lines empty name j k a b d e =
-    neither_less j k (λ l. before_no lines name j k l b (name_free lines empty name k b e) d) (λ l. before_no lines name k j l a (name_free lines empty name j a d) e)
+    only_one j k (λ l. before_no lines name j k l b (name_free lines empty name k b e) d) (λ l. before_no lines name k j l a (name_free lines empty name j a d) e)
 
 -- the names of all parts, by the lines
 joined_names : (lines : List (List (List ℕ))) → case_names (case_of lines) ≡ names_by is_table lines ++ names_by is_node lines ++ names_by is_pipe lines

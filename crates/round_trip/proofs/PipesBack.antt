@@ -18,6 +18,7 @@ use Rattle.round_trip.proofs.Amounts.{IsSmall, amount_back, small_above}
 use Rattle.round_trip.proofs.Directives.{spot_directive, of_pipe, of_probe}
 use Rattle.round_trip.proofs.InOrder.{parts_from, numbered}
 use Rattle.round_trip.proofs.NodesBack.{flow_small}
+use Rattle.case_model.proofs.ListFacts.{all_both}
 
 -- the nodes and the pipes are found by their names among those that are read
 pub record AreNodesFound (read nodes : List Node) : Type 0 where
@@ -88,14 +89,10 @@ pub probes_numbered : (line : ℕ) (qs : List Probe) → numbered probe_on line 
 probes_numbered line [] = refl
 probes_numbered line (q ∷ qs) = ap (λ (us : List Probe). probe_on line q ∷ us) (probes_numbered (line + 1) qs)
 
--- two facts of each part
-pub both : {X : Type 0} (P Q : X → Type 0) (xs : List X) → All P xs → All Q xs → All (λ x. P x × Q x) xs
-both P Q xs f g k d l = (f k d l, g k d l)
-
 pub each_pipe : (read nodes : List Node) (ps : List Pipe) → AreNodesFound read nodes → All IsPipe ps → All (IsJoined (length nodes)) ps → AllByRecursion (λ p. (line : ℕ) → pipe_said read line (pipe_line nodes p) ≡ Some (pipe_on line p)) ps
 each_pipe read nodes ps f h j =
     let P = λ (p : Pipe). (line : ℕ) → pipe_said read line (pipe_line nodes p) ≡ Some (pipe_on line p) in
-    recursion_from_All P ps (All-weaker (λ p. IsPipe p × IsJoined (length nodes) p) P (λ p k. pipe_back read nodes p f (pipe_small p k.0) k.1) ps (both IsPipe (IsJoined (length nodes)) ps h j))
+    recursion_from_All P ps (All-weaker (λ p. IsPipe p × IsJoined (length nodes) p) P (λ p k. pipe_back read nodes p f (pipe_small p k.0) k.1) ps (all_both IsPipe (IsJoined (length nodes)) ps h j))
 
 pub each_probe : (read_pipes pipes : List Pipe) (read_nodes nodes : List Node) (qs : List Probe) → ArePipesFound read_pipes pipes → AreNodesFound read_nodes nodes → All (λ q. IsSpot (length pipes) (length nodes) q.at) qs
     → AllByRecursion (λ q. (line : ℕ) → probe_said read_pipes read_nodes line (probe_line pipes nodes q) ≡ Some (probe_on line q)) qs

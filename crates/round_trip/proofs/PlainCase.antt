@@ -27,15 +27,7 @@ use Rattle.round_trip.specs.Plain.{is_plain, IsPlainLine}
 use Rattle.round_trip.specs.Writable.{IsNameText, IsWritable, case_names}
 use Rattle.round_trip.proofs.Tests.{name_plain, marked_plain}
 use Rattle.round_trip.proofs.Numbers.{written_plain}
-
--- what holds of the first and of the second of two lists, and of the items of a list by a part of each
-all_first : {X : Type 0} (P : X → Type 0) (xs ys : List X) → All P (xs ++ ys) → All P xs
-all_first P [] ys h = All-nil P
-all_first P (x ∷ xs) ys h = All-cons P x xs (All-head P x (xs ++ ys) h) (all_first P xs ys (All-tail P x (xs ++ ys) h))
-
-all_second : {X : Type 0} (P : X → Type 0) (xs ys : List X) → All P (xs ++ ys) → All P ys
-all_second P [] ys h = h
-all_second P (x ∷ xs) ys h = all_second P xs ys (All-tail P x (xs ++ ys) h)
+use Rattle.case_model.proofs.ListFacts.{all_left, all_right}
 
 all_unmapped : {X Y : Type 0} (P : X → Type 0) (f : Y → X) (ys : List Y) → All P (map f ys) → All (λ y. P (f y)) ys
 all_unmapped P f [] h = All-nil (λ y. P (f y))
@@ -55,11 +47,11 @@ plain_names case h =
     let ps = map (λ (p : Pipe). p.name) case.pipes in
     let P = λ (name : List ℕ). is_plain name ≡ true in
     let all : All P (ts ++ ns ++ ps) = All-weaker IsNameText P (λ name i. name_plain name i.spelt) (ts ++ ns ++ ps) h in
-    let front : All P (ts ++ ns) = all_first P (ts ++ ns) ps all in
+    let front : All P (ts ++ ns) = all_left P (ts ++ ns) ps all in
     record {
-      tables = all_unmapped P (λ (t : Table). t.name) case.tables (all_first P ts ns front);
-      nodes = all_unmapped P (λ (n : Node). n.name) case.nodes (all_second P ts ns front);
-      pipes = all_unmapped P (λ (p : Pipe). p.name) case.pipes (all_second P (ts ++ ns) ps all);
+      tables = all_unmapped P (λ (t : Table). t.name) case.tables (all_left P ts ns front);
+      nodes = all_unmapped P (λ (n : Node). n.name) case.nodes (all_right P ts ns front);
+      pipes = all_unmapped P (λ (p : Pipe). p.name) case.pipes (all_right P (ts ++ ns) ps all);
     }
 
 -- fields that are plain

@@ -14,7 +14,6 @@ use Rattle.case_lines.specs.declared.words.Single.TheVariants.{Step, Steps, Vapo
 use Rattle.case_lines.specs.declared.words.Directive.{Directive}
 use Rattle.case_lines.specs.declared.words.Directive.TheVariants.{OfSingle, OfTable, OfNode, OfPipe}
 use Rattle.case_lines.specs.declared.quantities.Quantity.TheVariants.{TimeStep, StepCount, VapourHead, GrowthWeight, SpeedTolerance, SampleStep}
-use Rattle.case_lines.specs.declared.fields.FieldKind.TheVariants.{Number}
 use Rattle.case_lines.specs.Words.{directive_of, single_of, table_of, node_of, has_single}
 use Rattle.case_lines.specs.Fields.{field, field_kind, has_count, has_too_many, single_field, is_heading}
 use Rattle.case_lines.specs.Tables.{is_disordered}
@@ -30,8 +29,8 @@ use Rattle.round_trip.proofs.Directives.{kind_word, spot_directive}
 use Rattle.round_trip.proofs.FieldsFit.{IsFit, IsAmount, amount_fit, word_fit, above}
 use Rattle.round_trip.proofs.LinesFit.{IsFitLine, table_line_fit, node_line_fit, pipe_line_fit, probe_line_fit}
 use Rattle.round_trip.proofs.KnownBack.{AreNamed, parts_named, names_known}
-use Rattle.round_trip.proofs.PipesBack.{both}
 use Rattle.round_trip.proofs.Once.{defined_once, single_once, names_once, singles_once}
+use Rattle.case_model.proofs.ListFacts.{all_both}
 
 -- a test that fails at each place of a range fails on the range
 none_of_range : (p : ℕ → Bool) (i n : ℕ) → ((k : ℕ) → i ≤ k → k < i + n → p k ≡ false) → list_any p (range_with_len i n) ≡ false
@@ -235,12 +234,12 @@ parts_fit case h n =
     let known = names_known case n in
     let fits = IsLineFit all in
     All-append fits (map table_line case.tables) (node_rest case)
-    (each_line all (λ t. IsTable t × IsNameText t.name) table_line (λ t k. record { directive = OfTable t.kind; fit = table_line_fit all t k.0 k.1 }) case.tables (both IsTable (λ t. IsNameText t.name) case.tables h.tables n.tables))
+    (each_line all (λ t. IsTable t × IsNameText t.name) table_line (λ t k. record { directive = OfTable t.kind; fit = table_line_fit all t k.0 k.1 }) case.tables (all_both IsTable (λ t. IsNameText t.name) case.tables h.tables n.tables))
     (All-append fits (map (node_line case.tables) case.nodes) (pipe_rest case)
-    (each_line all (λ x. IsNode case.tables x × IsNameText x.name) (node_line case.tables) (λ x k. record { directive = OfNode (kind_word x.kind); fit = node_line_fit all case x known k.0 k.1 }) case.nodes (both (IsNode case.tables) (λ x. IsNameText x.name) case.nodes h.nodes n.nodes))
+    (each_line all (λ x. IsNode case.tables x × IsNameText x.name) (node_line case.tables) (λ x k. record { directive = OfNode (kind_word x.kind); fit = node_line_fit all case x known k.0 k.1 }) case.nodes (all_both (IsNode case.tables) (λ x. IsNameText x.name) case.nodes h.nodes n.nodes))
     (All-append fits (map (pipe_line case.nodes) case.pipes) (probe_rest case)
     (each_line all (λ p. (IsPipe p × IsJoined (length case.nodes) p) × IsNameText p.name) (pipe_line case.nodes) (λ p k. record { directive = OfPipe; fit = pipe_line_fit all case p known k.0.0 k.0.1 k.1 }) case.pipes
-    (both (λ p. IsPipe p × IsJoined (length case.nodes) p) (λ p. IsNameText p.name) case.pipes (both IsPipe (IsJoined (length case.nodes)) case.pipes h.pipes h.joins) n.pipes))
+    (all_both (λ p. IsPipe p × IsJoined (length case.nodes) p) (λ p. IsNameText p.name) case.pipes (all_both IsPipe (IsJoined (length case.nodes)) case.pipes h.pipes h.joins) n.pipes))
     (All-append fits (map (probe_line case.pipes case.nodes) case.probes) []
     (each_line all (λ q. IsSpot (length case.pipes) (length case.nodes) q.at) (probe_line case.pipes case.nodes) (λ q k. record { directive = spot_directive q.at; fit = probe_line_fit all case q known k }) case.probes h.spots) (All-nil fits))))
 

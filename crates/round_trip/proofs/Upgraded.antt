@@ -1,19 +1,18 @@
 -- A case as version 2: it can be written where the case can be, with the same mesh.
-use Rattle.std.proofs.Common.{inl, inr, ℕ, ◌≤◌, ◌≡◌, ◌==◌, ◌&&◌, ◌||◌, not, nat_le, Bool, true, false, IsTrue, cond, ℤ, Ok, List, [], ◌∷◌, length, sym, subst, ap, ◌∙◌, refl, arith}
-use Rattle.std.proofs.lemmas.Bool.{and_parts, and_from, or_cases, or_left, or_right, le-leb, leb-true, true_from_ne_false, not-true}
+use Rattle.std.proofs.Common.{inr, ℕ, ◌≤◌, ◌≡◌, ◌==◌, ◌&&◌, ◌||◌, not, nat_le, Bool, true, false, IsTrue, cond, Ok, List, [], ◌∷◌, length, subst, ap, ◌∙◌, refl, arith}
+use Rattle.std.proofs.lemmas.Bool.{and_parts, and_from, or_right, le-leb, leb-true}
 use Rattle.case_model.specs.declared.cases.Case.{Case}
-use Rattle.case_model.specs.declared.cases.Node.{Node}
 use Rattle.case_model.specs.declared.cases.NodeKind.{NodeKind}
 use Rattle.case_model.specs.declared.cases.NodeKind.TheVariants.{Reservoir, Junction, Discharge, Inline, Pump, Tank, Vessel}
 use Rattle.case_model.specs.declared.cases.ProbeAt.{ProbeAt}
 use Rattle.case_model.specs.declared.cases.ProbeAt.TheVariants.{OnPipe, OnNode}
 use Rattle.case_model.specs.declared.meshes.End.{End}
 use Rattle.case_model.specs.declared.meshes.Mesh.{Mesh}
-use Rattle.case_model.specs.Sets.{IsEmpty, AreEmpty, on_line, either, any_below}
-use Rattle.case_model.specs.Parts.{pipe_at, node_at, probe_at}
+use Rattle.case_model.specs.Sets.{IsEmpty, either, any_below}
+use Rattle.case_model.specs.Parts.{node_at, probe_at}
 use Rattle.case_model.specs.Division.{divides, place_base, pipe_mesh, node_ends, mesh_of}
 use Rattle.case_model.specs.Limits.{IsRead}
-use Rattle.case_model.specs.Refusals.{is_joined, most_ends, ends_suit, exceeds, breaks_pipe, breaks_node, is_off, pipe_rules, node_rules, probe_rules, part_rules, sample_count, is_too_large, size_rules, passes}
+use Rattle.case_model.specs.Refusals.{is_joined, most_ends, ends_suit, exceeds, breaks_node, is_off, pipe_rules, node_rules, probe_rules, part_rules, sample_count, is_too_large, size_rules}
 use Rattle.case_writing.specs.CaseText.{case_text, upgraded}
 use Rattle.netfile.specs.Verdict.{verdict}
 use Rattle.round_trip.specs.Renumbered.{renumbered}

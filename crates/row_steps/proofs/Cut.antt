@@ -28,17 +28,13 @@ use Rattle.envelope.specs.Rows.{noting_at, rows_noted}
 use Rattle.envelope.specs.declared.folds.Fold.{Fold}
 use Rattle.row_steps.specs.Noting.{before_place, HasStates, HasLine, HasLines}
 use Rattle.row_steps.specs.Stepping.{HasPlaces}
+use Rattle.envelope.proofs.Noted.{only-then, only-there}
+use Rattle.envelope.proofs.Sampled.{alone}
 
 -- ---- one noting alone
 
 only-here : (step place : ℕ) (x : Noting) (s k : ℕ) → s ≡ step → k ≡ place → only step place x s k ≡ Some x
 only-here step place x s k e f = rw (eq-eqb s step e, eq-eqb k place f) refl
-
-only-then : (step place : ℕ) (x : Noting) (s k : ℕ) → s ≢ step → only step place x s k ≡ None
-only-then step place x s k h = rw (ne_eqb s step h) refl
-
-only-there : (step place : ℕ) (x : Noting) (s k : ℕ) → k ≢ place → only step place x s k ≡ None
-only-there step place x s k h = rw (ne_eqb k place h, and-false) refl
 
 -- ---- before a place of a step, and from it on
 
@@ -74,10 +70,6 @@ dropped map step place s k (inl h) = rw (le-ltb s step (omega arith), ne_eqb s s
 dropped map step place s k (inr h) = rw (le-ltb s step (let e : s ≡ step = h.0 in omega arith), le-ltb k place h.1, and-false) refl
 
 -- ---- one noting more
-
-alone : {X : Type 0} (a b : Option X) → b ≡ None → first_of a b ≡ a
-alone None b h = h
-alone (Some x) b h = refl
 
 not-now : (step place : ℕ) (x : Noting) (s k : ℕ) → IsBefore step place s k → only step place x s k ≡ None
 not-now step place x s k (inl h) = only-then step place x s k (λ e. omega arith)

@@ -19,6 +19,7 @@ use Rattle.case_model.specs.Refusals.{most_ends}
 use Rattle.case_model.proofs.Keeping.{kept, parts}
 use Rattle.scheme.specs.Computable.{HasEnds, IsComputable}
 use Rattle.scheme.proofs.Suiting.{suiting}
+use Rattle.fixed_num.proofs.Orders.{at_most_of}
 
 -- a count of reaches, an impedance and a friction that are accepted
 record HasNumbers (n : ℕ) (b r : ℤ) : Type 0 where
@@ -28,9 +29,6 @@ record HasNumbers (n : ℕ) (b r : ℤ) : Type 0 where
   r_low : pos 0 ≤ℤ r
   r_high : r ≤ℤ pos 100_000_000_000_000_000_000
 
-le_of : (x y : ℤ) → int_le x y ≡ true → x ≤ℤ y
-le_of x y h = grind (arith, ints)
-
 numbers : (n : ℕ) (b r : ℤ) → is_count n ≡ true → are_accepted b r ≡ true → HasNumbers n b r
 unfolding are_accepted
 numbers n b r h k =
@@ -39,10 +37,10 @@ numbers n b r h k =
     let z = and_parts _ _ y.0 in
     record {
       few = grind (arith, nat_tests);
-      b_low = le_of (pos 100_000) b z.0;
-      b_high = le_of b (pos 10_000_000_000_000) z.1;
-      r_low = le_of (pos 0) r y.1;
-      r_high = le_of r (pos 100_000_000_000_000_000_000) x.1;
+      b_low = at_most_of (pos 100_000) b z.0;
+      b_high = at_most_of b (pos 10_000_000_000_000) z.1;
+      r_low = at_most_of (pos 0) r y.1;
+      r_high = at_most_of r (pos 100_000_000_000_000_000_000) x.1;
     }
 
 divided : (dt tolerance : ℤ) (p : Pipe) → is_divided dt tolerance p ≡ true → HasNumbers (reach_count dt p) (b_of dt (reach_count dt p) p) (r_of (reach_count dt p) p)

@@ -1,7 +1,9 @@
+pub mod Caused
 pub mod Divided
 pub mod EndPoints
+pub mod Following
 pub mod Gathered
-pub mod Running
+pub mod NodeCaused
 pub mod Shares
 pub mod Starting
 pub mod Suiting

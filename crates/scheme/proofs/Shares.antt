@@ -8,31 +8,13 @@ use Rattle.case_model.specs.declared.meshes.End.{End}
 use Rattle.case_model.specs.Parts.{pipe_at}
 use Rattle.scheme.specs.Ends.{along}
 use Rattle.scheme.specs.Starts.{start_inflow}
+use Rattle.fixed_num.proofs.Between.{half_up-none, rnd_up, rnd_down, times_up, times_down}
 
 pub part_below : (size place reaches : ℕ) → 0 < reaches → place ≤ reaches → half_up (size * place) reaches ≤ size
 part_below size place reaches some h =
     let s : size * place ≤ size * reaches = mul-le size place size reaches (omega arith) h in
     let d : half_up (size * place) reaches < suc size = div_below (2 * (size * place) + reaches) (2 * reaches) (suc size) (omega arith) (omega arith) in
     omega arith
-
-half_up-none : (d : ℕ) → 0 < d → half_up 0 d ≡ 0
-half_up-none d h = let b : half_up 0 d < 1 = div_below (2 * 0 + d) (2 * d) 1 (omega arith) (omega arith) in omega arith
-
-rnd_up : (k d : ℕ) → rnd (pos k) (pos d) ≡ pos (half_up k d)
-unfolding rnd
-rnd_up k d = refl
-
-rnd_down : (k d : ℕ) → 0 < d → rnd (neg_ℤ (pos k)) (pos d) ≡ neg_ℤ (pos (half_up k d))
-unfolding rnd
-rnd_down zero d h = ap pos (half_up-none d h) ∙ ap (λ (n : ℕ). neg_ℤ (pos n)) (sym (half_up-none d h))
-rnd_down (suc k) d h = let e : k + 1 ≡ suc k = omega arith in ap (λ (n : ℕ). neg_ℤ (pos (half_up n d))) e
-
-times_up : (m x : ℕ) → pos m *ℤ pos x ≡ pos (m * x)
-times_up m x = omega (arith, ints)
-
-times_down : (m x : ℕ) → negsuc m *ℤ pos x ≡ neg_ℤ (pos (suc m * x))
-times_down m zero = omega (arith, ints)
-times_down m (suc x) = omega (arith, ints)
 
 -- the rounded share, by the sign of the difference
 pub share_up : (difference : ℤ) (place reaches : ℕ) → pos 0 ≤ℤ difference → rnd (difference *ℤ pos place) (pos reaches) ≡ pos (half_up (unsigned_abs difference * place) reaches)

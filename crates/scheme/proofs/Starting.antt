@@ -28,6 +28,7 @@ use Rattle.scheme.specs.Starts.{start_head, start_inflow, start_volume, start_gr
 use Rattle.scheme.specs.Values.{value_at}
 use Rattle.scheme.proofs.Shares.{part_below, share_up, share_down}
 use Rattle.scheme.proofs.TimeTables.{found}
+use Rattle.fixed_num.proofs.Orders.{less_of, not_less_of}
 
 -- ---- a part of the way between two numbers lies between them
 
@@ -51,12 +52,6 @@ part_between low high a b x d h i some m = elim (sign_of (b -ℤ a)) [
 as_size : (x : ℤ) → pos 0 ≤ℤ x → pos (unsigned_abs x) ≡ x
 as_size x h = omega (arith, ints)
 
-is_less : (x y : ℤ) → int_lt x y ≡ true → x <ℤ y
-is_less x y h = grind (arith, ints)
-
-not_less : (x y : ℤ) → int_lt x y ≡ false → y ≤ℤ x
-not_less x y h = grind (arith, ints)
-
 on_line_between : (low high : ℤ) (from to : ℤ × ℤ) (t : ℤ) → IsBetween low high from.1 → IsBetween low high to.1 → from.0 ≤ℤ t → t <ℤ to.0 → IsBetween low high (on_line from to t)
 unfolding on_line
 on_line_between low high from to t h i m n =
@@ -69,10 +64,10 @@ on_line_between low high from to t h i m n =
 step_between : (low high : ℤ) (from to : ℤ × ℤ) (t rest : ℤ) (before first : Bool) → int_lt t to.0 ≡ before → int_lt t from.0 ≡ first → IsBetween low high from.1 → IsBetween low high to.1 → IsBetween low high rest
     → IsBetween low high (cond before (cond first from.1 (on_line from to t)) rest)
 step_between low high from to t rest true true e f h i r = h
-step_between low high from to t rest true false e f h i r = on_line_between low high from to t h i (not_less t from.0 f) (is_less t to.0 e)
+step_between low high from to t rest true false e f h i r = on_line_between low high from to t h i (not_less_of t from.0 f) (less_of t to.0 e)
 step_between low high from to t rest false first e f h i r = r
 
-interp_between : (low high : ℤ) (points : List (ℤ × ℤ)) (t : ℤ) → 0 < length points → AllByRecursion (λ e. IsBetween low high e.1) points → IsBetween low high (interp points t)
+pub interp_between : (low high : ℤ) (points : List (ℤ × ℤ)) (t : ℤ) → 0 < length points → AllByRecursion (λ e. IsBetween low high e.1) points → IsBetween low high (interp points t)
 unfolding interp
 interp_between low high [] t some h = absurd (omega (arith, some))
 interp_between low high (last ∷ []) t some h = h.0
@@ -132,11 +127,11 @@ flow_in : (case : Case) → IsRead case → (p : ℕ) → (p < length case.pipes
 flow_in case read p (inl h) = let q = read.pipes p no_pipe h in q.flow
 flow_in case read p (inr h) = rw (get_or-eq_default case.pipes no_pipe h) (omega arith)
 
-along_size : (at_last : Bool) (q : ℤ) → unsigned_abs (cond at_last q (neg_ℤ q)) ≡ unsigned_abs q
+pub along_size : (at_last : Bool) (q : ℤ) → unsigned_abs (cond at_last q (neg_ℤ q)) ≡ unsigned_abs q
 along_size true q = refl
 along_size false q = omega (arith, ints)
 
-added : (x sum : ℤ) (n : ℕ) → unsigned_abs x ≤ 1_000_000_000_000 → unsigned_abs sum ≤ 1_000_000_000_000 * n → unsigned_abs (x +ℤ sum) ≤ 1_000_000_000_000 * suc n
+pub added : (x sum : ℤ) (n : ℕ) → unsigned_abs x ≤ 1_000_000_000_000 → unsigned_abs sum ≤ 1_000_000_000_000 * n → unsigned_abs (x +ℤ sum) ≤ 1_000_000_000_000 * suc n
 added x sum n h k = omega (arith, ints)
 
 inflow-in : (case : Case) (ends : List End) → IsRead case → unsigned_abs (start_inflow case ends) ≤ 1_000_000_000_000 * length ends

@@ -34,7 +34,3 @@ pub only_place : (xs : List ℤ) (x y : ℤ) → length xs ≡ 1 → x ≡ y →
 only_place [] x y h e = absurd (omega (arith, h))
 only_place (z ∷ []) x y h e = ap (λ (n : ℤ). n ∷ []) e
 only_place (z ∷ w ∷ xs) x y h e = absurd (omega (arith, h))
-
--- an item that was read is that of the list
-pub read_as : {X : Type 0} (xs ys : List X) (i : ℕ) (x d : X) → x ≡ get_or xs i x → xs ≡ ys → i < length ys → x ≡ get_or ys i d
-read_as xs ys i x d e f h = e ∙ ap (λ (zs : List _). get_or zs i x) f ∙ get_or_default ys i x d h

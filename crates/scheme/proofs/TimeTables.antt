@@ -17,6 +17,7 @@ use Rattle.case_model.specs.declared.cases.Value.TheVariants.{Fixed, ByTable}
 use Rattle.case_model.specs.Limits.{IsHead, IsFlow, IsTime, IsWithin, IsEntry, IsInOrder, IsTable, IsTableOf, IsValue, IsOpening, IsRead, least_entries}
 use Rattle.case_model.specs.Parts.{table_at, no_table}
 use Rattle.scheme.specs.Values.{IsTimeTable, IsTimed, Keeps}
+use Rattle.fixed_num.proofs.Orders.{not_less_at}
 
 -- what the table of a kind has
 pub record HasKind (kind : TableKind) (points : List (ℤ × ℤ)) : Type 0 where
@@ -143,14 +144,11 @@ gas_in points x h w = size_of 100_000_000_000 x (w (neg_ℤ (pos 100_000_000_000
 
 -- ---- past the last time of a table
 
-not_before : (t u : ℤ) → u ≤ℤ t → int_lt t u ≡ false
-not_before t u h = grind (arith, ints)
-
 late : (points : List (ℤ × ℤ)) (t u : ℤ) → AllByRecursion (λ e. e.0 ≤ℤ t) points → AllByRecursion (λ e. e.0 ≤ℤ u) points → interp points t ≡ interp points u
 unfolding interp
 late [] t u h k = refl
 late (last ∷ []) t u h k = refl
-late (from ∷ to ∷ points) t u h k = rw (not_before t to.0 h.1.0, not_before u to.0 k.1.0) (late (to ∷ points) t u h.1 k.1)
+late (from ∷ to ∷ points) t u h k = rw (not_less_at t to.0 h.1.0, not_less_at u to.0 k.1.0) (late (to ∷ points) t u h.1 k.1)
 
 from_size : (x : ℤ) (n : ℕ) (t : ℤ) → unsigned_abs x ≤ n → pos n ≤ℤ t → x ≤ℤ t
 from_size x n t h k = omega (arith, ints)

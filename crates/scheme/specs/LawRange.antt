@@ -180,7 +180,7 @@ with_flows-good ends state flows h = (h, end_points-good state ends flows)
 between-good : (ends : List End) (t : Through) → AreGood (between ends t)
 between-good ends t = (through-good t, through_points-good t ends)
 
-law_of_kind-good : (case : Case) (hv : ℤ) (kind : NodeKind) (step : ℕ) (own : NodeState) (ends : List End) (arrivals : List Arrival) → AreGood (law_of_kind case hv kind step own ends arrivals)
+pub law_of_kind-good : (case : Case) (hv : ℤ) (kind : NodeKind) (step : ℕ) (own : NodeState) (ends : List End) (arrivals : List Arrival) → AreGood (law_of_kind case hv kind step own ends arrivals)
 unfolding law_of_kind
 law_of_kind-good case hv (Reservoir head) step own ends arrivals = with_flows-good ends _ _ (reservoir-good _ arrivals)
 law_of_kind-good case hv (Junction demand start) step own ends arrivals = with_flows-good ends _ _ (junction-good _ _ own arrivals)

@@ -1,8 +1,10 @@
 pub mod Arrivals
+pub mod Causes
 pub mod Computable
 pub mod Ends
 pub mod LawRange
 pub mod Laws
+pub mod NodeCauses
 pub mod NodeLaws
 pub mod ReadProps
 pub mod Starts

@@ -6,6 +6,7 @@
 #![tactic(auto)]
 
 mod arrivals;
+mod causes;
 mod ends;
 mod interior;
 mod levels;
@@ -14,4 +15,5 @@ mod physics;
 mod starts;
 mod values;
 
+pub use causes::{bad_ends_have_causes, bad_nodes_have_causes, bad_places_have_causes};
 pub use physics::Physics;

@@ -65,11 +65,6 @@ read_words words job w = rw w refl
 pub unread_words : (words : List (List ℕ)) → job_of words ≡ None → are_read words ≡ false
 unread_words words w = rw w refl
 
--- the law of a case fits its mesh
-pub mesh_fits : (case : Case) (mesh : Mesh) → (meaning_of case mesh).mesh ≡ mesh
-unfolding meaning_of
-mesh_fits case mesh = refl
-
 -- the answer to a text is never that to refused words
 pub not_usage : (job : Job) (told : Result (Case × Mesh) Refusal) → reads job.command ≡ true → (answer_to job told).status ≡ 2 → ⊥
 not_usage job (Err refusal) r e = cc

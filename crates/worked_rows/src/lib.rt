@@ -13,9 +13,13 @@ mod hydraulics_rows;
 #[cfg(test)]
 mod io_rows;
 #[cfg(test)]
+mod mesh_rows;
+#[cfg(test)]
 mod number_rows;
 #[cfg(test)]
 mod report_rows;
+#[cfg(test)]
+mod text_rows;
 #[cfg(test)]
 mod whole_cases;
 #[cfg(test)]

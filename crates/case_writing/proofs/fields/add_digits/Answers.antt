@@ -1,7 +1,7 @@
 use Rattle.std.proofs.Common.{◌≤◌, length, arith, to_z-of_z}
 use Rattle.std.proofs.lemmas.Grind.{common_steps}
 use Rattle.fixed_num.specs.Written.{written}
-use Rattle.case_writing.proofs.Widths.{short_written}
+use Rattle.fixed_num.proofs.Widths.{short_written}
 use Rattle.case_writing.proofs.fields.add_digits.Goals as goal
 
 pub add_field-requires : goal.add_field-requires

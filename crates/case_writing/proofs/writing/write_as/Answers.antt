@@ -1,8 +1,8 @@
 use Rattle.std.proofs.Common.{rules}
 use Rattle.std.proofs.lemmas.Result.{IfOk-weaker, IfErr-weaker}
 use Rattle.case_writing.specs.CaseText.{text_in}
-use Rattle.case_writing.proofs.Pieces.{front_at_the_end, front_of_text, whole_text}
 use Rattle.case_writing.proofs.writing.write_as.Goals as goal
+use Rattle.surge_io.proofs.WholeTexts.{whole_text, front_of_text, front_at_the_end}
 
 pub returns-in_err-add_case-clause-front : goal.returns-in_err-add_case-clause-front
 returns-in_err-add_case-clause-front g c =

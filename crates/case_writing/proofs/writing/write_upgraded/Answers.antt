@@ -1,4 +1,3 @@
-use Rattle.std.proofs.Common.{rules}
 use Rattle.case_writing.proofs.Upgrading.{upgraded_text}
 use Rattle.case_writing.proofs.writing.write_upgraded.Goals as goal
 

@@ -1,7 +1,8 @@
 use Rattle.std.proofs.Common.{arith, to_z-of_z, ◌*◌, ◌<◌, ◌≤◌, ◌+ℤ◌, unsigned_abs}
 use Rattle.std.proofs.lemmas.Int.{ints}
-use Rattle.charline.proofs.Sizes.{fits, mean_below}
+use Rattle.charline.proofs.Sizes.{mean_below}
 use Rattle.charline.proofs.interior.mean.Goals as goal
+use Rattle.fixed_num.proofs.Fits.{fits}
 
 pub overflow_cast-result : goal.overflow_cast-result
 overflow_cast-result c =

@@ -1,8 +1,8 @@
 use Rattle.std.proofs.Common.{arith, to_z-of_z, ◌≡◌, ◌+◌, ◌+ℤ◌, unsigned_abs}
 use Rattle.std.proofs.lemmas.Int.{ints}
 use Rattle.charline.specs.Interior.{meeting_head}
-use Rattle.charline.proofs.Sizes.{fits}
 use Rattle.charline.proofs.interior.meeting_head.Goals as goal
+use Rattle.fixed_num.proofs.Fits.{fits}
 
 pub mean-requires-clause-both : goal.mean-requires-clause-both
 mean-requires-clause-both c =

@@ -1,7 +1,8 @@
 use Rattle.std.proofs.Common.{arith, to_z-of_z}
 use Rattle.charline.specs.Characteristics.{impedance_head}
-use Rattle.charline.proofs.Sizes.{fits, fits_product, head_below}
+use Rattle.charline.proofs.Sizes.{fits_product, head_below}
 use Rattle.charline.proofs.quotients.wide_impedance_head.Goals as goal
+use Rattle.fixed_num.proofs.Fits.{fits}
 
 pub overflow_cast-result : goal.overflow_cast-result
 overflow_cast-result c =

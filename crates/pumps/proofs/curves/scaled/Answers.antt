@@ -2,9 +2,9 @@ use Rattle.std.proofs.Common.{arith, to_z-of_z, FitsSigned, w64, ◌≡◌, pos,
 use Rattle.std.proofs.lemmas.Int.{ints}
 use Rattle.case_model.specs.Limits.{IsWithin}
 use Rattle.pumps.specs.Pumps.{scaled}
-use Rattle.charline.proofs.Sizes.{fits}
 use Rattle.pumps.proofs.Scales.{scaled_fits, scaled_within}
 use Rattle.pumps.proofs.curves.scaled.Goals as goal
+use Rattle.fixed_num.proofs.Fits.{fits}
 
 pub overflow_cast-result : goal.overflow_cast-result
 unfolding scaled

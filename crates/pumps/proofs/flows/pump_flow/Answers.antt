@@ -1,8 +1,8 @@
 use Rattle.std.proofs.Common.{arith, to_z-of_z, FitsSigned, w64, ◌+ℤ◌, ◌-ℤ◌}
 use Rattle.std.proofs.lemmas.Int.{ints}
 use Rattle.pumps.specs.Pumps.{pump_through}
-use Rattle.charline.proofs.Sizes.{fits}
 use Rattle.pumps.proofs.flows.pump_flow.Goals as goal
+use Rattle.fixed_num.proofs.Fits.{fits}
 
 pub returns : goal.returns
 unfolding pump_through

@@ -1,7 +1,8 @@
 use Rattle.std.proofs.Common.{◌≤◌, unsigned_abs, arith, to_z-of_z}
 use Rattle.std.proofs.lemmas.Int.{ints}
-use Rattle.reaches.proofs.Sizes.{fits, share_below, share_fits}
+use Rattle.reaches.proofs.Sizes.{share_below, share_fits}
 use Rattle.reaches.proofs.elevations.share.Goals as goal
+use Rattle.fixed_num.proofs.Fits.{fits}
 
 pub overflow_cast-result : goal.overflow_cast-result
 overflow_cast-result c =

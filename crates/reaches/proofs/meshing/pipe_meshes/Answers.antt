@@ -1,8 +1,9 @@
 use Rattle.std.proofs.Common.{◌≡◌, ◌<◌, length, ap, sym, ◌∙◌, arith}
 use Rattle.case_model.specs.declared.meshes.PipeMesh.{PipeMesh}
 use Rattle.case_model.specs.Division.{pipe_mesh, reaches_at}
-use Rattle.reaches.proofs.Whole.{base_none, base_more, reaches_of_mesh, listed_more}
+use Rattle.reaches.proofs.Whole.{base_none, base_more, reaches_of_mesh}
 use Rattle.reaches.proofs.meshing.pipe_meshes.Goals as goal
+use Rattle.case_model.proofs.RowLaws.{listed_more}
 
 pub loop-pipe-init : goal.loop-pipe-init
 loop-pipe-init c = record {

@@ -1,8 +1,8 @@
 use Rattle.std.proofs.Common.{rules}
 use Rattle.std.proofs.lemmas.Result.{IfOk-weaker, IfErr-weaker}
 use Rattle.report.specs.MeshText.{mesh_text}
-use Rattle.report.proofs.Pieces.{whole_text, front_of_text, front_at_the_end}
 use Rattle.report.proofs.mesh_writing.write_mesh.Goals as goal
+use Rattle.surge_io.proofs.WholeTexts.{whole_text, front_of_text, front_at_the_end}
 
 pub returns-in_err-add_mesh-clause-front : goal.returns-in_err-add_mesh-clause-front
 returns-in_err-add_mesh-clause-front g c =

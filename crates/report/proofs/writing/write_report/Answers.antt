@@ -3,8 +3,8 @@ use Rattle.std.proofs.lemmas.Result.{IfOk-weaker, IfErr-weaker}
 use Rattle.envelope.specs.Kept.{sample_kept}
 use Rattle.report.specs.Report.{report_text}
 use Rattle.report.specs.Reportable.{extremes_of}
-use Rattle.report.proofs.Pieces.{whole_text, front_of_text, front_at_the_end}
 use Rattle.report.proofs.writing.write_report.Goals as goal
+use Rattle.surge_io.proofs.WholeTexts.{whole_text, front_of_text, front_at_the_end}
 
 pub returns-in_err-add_report-clause-front : goal.returns-in_err-add_report-clause-front
 returns-in_err-add_report-clause-front g c =

@@ -2,7 +2,7 @@ use Rattle.std.proofs.Common.{rules, refl, ◌+◌, ◌∙◌, pos}
 use Rattle.case_model.specs.declared.points.Point.TheVariants.{Good}
 use Rattle.case_model.specs.Runs.{run_of, point_at}
 use Rattle.scheme.specs.Laws.{inner_law, meaning_of}
-use Rattle.scheme.proofs.Running.{one_more, in_bounds}
+use Rattle.case_model.proofs.Running.{one_more, in_bounds}
 use Rattle.scheme.proofs.interior.linear_run.Goals as goal
 
 pub loop-k-init : goal.loop-k-init

@@ -2,8 +2,8 @@ use Rattle.std.proofs.Common.{arith, to_z-of_z, FitsSigned, w64, ◌+ℤ◌}
 use Rattle.std.proofs.lemmas.Int.{ints}
 use Rattle.valves.specs.Devices.{inline_through}
 use Rattle.valves.specs.Orifices.{IsOrifice}
-use Rattle.charline.proofs.Sizes.{fits}
 use Rattle.valves.proofs.devices.inline.Goals as goal
+use Rattle.fixed_num.proofs.Fits.{fits}
 
 pub valve_flow-flow-requires-clause-valve_in : goal.valve_flow-flow-requires-clause-valve_in
 valve_flow-flow-requires-clause-valve_in c =

@@ -1,7 +1,7 @@
 use Rattle.std.proofs.Common.{arith, to_z-of_z, FitsSigned, w64}
 use Rattle.std.proofs.lemmas.Int.{ints}
-use Rattle.charline.proofs.Sizes.{fits}
 use Rattle.valves.proofs.devices.through.Goals as goal
+use Rattle.fixed_num.proofs.Fits.{fits}
 
 pub returns : goal.returns
 returns c =

@@ -3,9 +3,9 @@ use Rattle.std.proofs.lemmas.Int.{ints}
 use Rattle.case_model.specs.Limits.{IsWithin}
 use Rattle.fixed_num.specs.Rounding.{rnd}
 use Rattle.valves.specs.Orifices.{open_flow}
-use Rattle.charline.proofs.Sizes.{fits}
 use Rattle.valves.proofs.Quotients.{open_fits, open_below, open_within}
 use Rattle.valves.proofs.orifices.open_flow.Goals as goal
+use Rattle.fixed_num.proofs.Fits.{fits}
 
 pub overflow_cast-result : goal.overflow_cast-result
 overflow_cast-result c =

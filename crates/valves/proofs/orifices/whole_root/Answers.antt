@@ -1,7 +1,7 @@
 use Rattle.std.proofs.Common.{arith, to_z-of_z}
-use Rattle.charline.proofs.Sizes.{fits}
 use Rattle.valves.proofs.Quotients.{root-most}
 use Rattle.valves.proofs.orifices.whole_root.Goals as goal
+use Rattle.fixed_num.proofs.Fits.{fits}
 
 pub overflow_cast-result : goal.overflow_cast-result
 overflow_cast-result c =

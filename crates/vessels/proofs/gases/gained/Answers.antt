@@ -1,7 +1,7 @@
 use Rattle.std.proofs.Common.{arith, to_z-of_z}
-use Rattle.charline.proofs.Sizes.{fits}
 use Rattle.vessels.proofs.Sizes.{step_fits, gained_below}
 use Rattle.vessels.proofs.gases.gained.Goals as goal
+use Rattle.fixed_num.proofs.Fits.{fits}
 
 pub overflow_cast-result : goal.overflow_cast-result
 overflow_cast-result c =

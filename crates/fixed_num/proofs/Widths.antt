@@ -6,10 +6,7 @@ use Rattle.std.proofs.lemmas.Fmt.{length-decimal-le_wide}
 use Rattle.std.proofs.lemmas.Nat.{div_below, pow-add}
 use Rattle.std.proofs.Math.Nat.{div-le_self, one-le-pow}
 use Rattle.fixed_num.specs.Written.{last_digits, sign, fraction_text, written}
-
-length-last_digits : (k n : ℕ) → length (last_digits k n) ≡ k
-length-last_digits zero n = refl
-length-last_digits (suc k) n = ap suc (length-last_digits k n)
+use Rattle.fixed_num.proofs.Texts.{length-last_digits}
 
 short_sign : (z : ℤ) → length (sign z) ≤ 1
 short_sign (pos n) = omega arith
