@@ -1,8 +1,7 @@
 -- Lines one behind the other through a page.
 use Rattle.std.proofs.Common.{◌≡◌, ℕ, zero, suc, ◌+◌, ◌-◌, ◌<◌, List, [], ◌++◌, Option, refl, ap, sym, subst, ◌∙◌, append_assoc, append-nil, arith}
 use Rattle.std.specs.List.{flat_map, range_with_len}
-use Rattle.surge_io.specs.Bytes.{Appends, AppendsFront}
-use Rattle.surge_io.specs.Pages.{Passes, Adds, AddsFront, Finishes, FinishesFront, Adds-then, AddsFront-then, AddsFront-more}
+use Rattle.surge_io.specs.Pages.{Adds, AddsFront, Adds-then, AddsFront-then, AddsFront-more}
 
 -- ---- the lines of some indexes
 

@@ -1,5 +1,5 @@
 -- The part of a difference that a place has of all reaches, and sums over ends.
-use Rattle.std.proofs.Common.{◌≡◌, ℕ, zero, suc, ◌+◌, ◌*◌, ◌<◌, ◌≤◌, List, [], ◌∷◌, length, take, get_or, ℤ, pos, negsuc, neg_ℤ, ◌+ℤ◌, ◌*ℤ◌, ◌≤ℤ◌, ◌<ℤ◌, unsigned_abs, refl, ap, sym, ◌∙◌, add-one, arith}
+use Rattle.std.proofs.Common.{◌≡◌, ℕ, zero, suc, ◌+◌, ◌*◌, ◌<◌, ◌≤◌, List, [], ◌∷◌, length, take, get_or, ℤ, pos, negsuc, neg_ℤ, ◌+ℤ◌, ◌*ℤ◌, ◌≤ℤ◌, ◌<ℤ◌, unsigned_abs, ap, ◌∙◌, add-one, arith}
 use Rattle.std.proofs.lemmas.Int.{ints}
 use Rattle.std.proofs.lemmas.Nat.{mul-le, div_below}
 use Rattle.fixed_num.specs.Rounding.{half_up, rnd}
@@ -8,7 +8,7 @@ use Rattle.case_model.specs.declared.meshes.End.{End}
 use Rattle.case_model.specs.Parts.{pipe_at}
 use Rattle.scheme.specs.Ends.{along}
 use Rattle.scheme.specs.Starts.{start_inflow}
-use Rattle.fixed_num.proofs.Between.{half_up-none, rnd_up, rnd_down, times_up, times_down}
+use Rattle.fixed_num.proofs.Between.{rnd_up, rnd_down, times_up, times_down}
 
 pub part_below : (size place reaches : ℕ) → 0 < reaches → place ≤ reaches → half_up (size * place) reaches ≤ size
 part_below size place reaches some h =

@@ -49,8 +49,7 @@ fn run<R: AllocGlobal, S: Source, K: Sink>(
         K.held out.new ≡ K.held out.old }
     ensures read_fault { result ≡ Status.ReadFault → Rose (S.faults src.old) (S.faults src.new) }
     ensures write_fault { result ≡ Status.WriteFault → Rose (K.faults out.old) (K.faults out.new) }
-    ensures complete {
-        (Rose (S.faults src.old) (S.faults src.new) ⊎ Rose (K.faults out.old) (K.faults out.new))
+    ensures complete { (Rose (S.faults src.old) (S.faults src.new) ⊎ Rose (K.faults out.old) (K.faults out.new))
         ⊎ ((result ≡ Status.Memory) ⊎ IsAnswered result) }
 {
     match lend(rt.alloc(), words) {
@@ -82,14 +81,19 @@ fn exit(status: Status) -> ExitCode
     ExitCode::from(status.number())
 }
 
-fn main(rt: HostRuntime) -> ExitCode
+// Runs the program over the standard streams: the exit number is one of the statuses.
+fn start<R: AllocGlobal + Env + Input + Print>(rt: &R) -> ExitCode
     ensures { exit_status result ≤ 6 }
 {
     let mut source = StreamSource::over(rt.reader());
-    let mut sink = StreamSink::over(io::writer(&rt));
-    let status = match words(&rt) {
-        Ok(words) => run(&rt, &words, &mut source, &mut sink),
+    let mut sink = StreamSink::over(io::writer(rt));
+    let status = match words(rt) {
+        Ok(words) => run(rt, &words, &mut source, &mut sink),
         Err(AllocError) => Status::Memory,
     };
     exit(status)
+}
+
+fn main(rt: HostRuntime) -> ExitCode {
+    start(&rt)
 }

@@ -287,7 +287,11 @@ fn meshes_are_cut_as_worked_out_by_hand(rt: HostRuntime) -> Result<(), Fail> {
             LONG,
             b"window 256 strands 5 regions 7\n",
         ),
-        (&["surge", "mesh"], LONG, b"window 64 strands 17 regions 25\n"),
+        (
+            &["surge", "mesh"],
+            LONG,
+            b"window 64 strands 17 regions 25\n",
+        ),
     ];
     for (words, text, last) in rows {
         let (ended, out) = answer(&rt, words, text)?;
@@ -296,7 +300,6 @@ fn meshes_are_cut_as_worked_out_by_hand(rt: HostRuntime) -> Result<(), Fail> {
     }
     Ok(())
 }
-
 
 #[test]
 fn upgrade_writes_every_value(rt: HostRuntime) -> Result<(), Fail> {

@@ -1,7 +1,8 @@
 //! Whole inputs and outputs through each kind of source and sink, with failures where they are asked for.
 use std::test::Fail;
 use surge_io::{
-    Failed, Line, MemorySink, MemorySource, Page, ReadFault, SteadySource, StreamSink, StreamSource, put, whole,
+    Failed, Line, MemorySink, MemorySource, Page, ReadFault, SteadySource, StreamSink,
+    StreamSource, put, whole,
 };
 
 #[test]

@@ -3,23 +3,23 @@
 #![tactic(auto)]
 
 #[cfg(test)]
-mod hydraulics_rows;
-#[cfg(test)]
-mod mesh_rows;
-#[cfg(test)]
-mod number_rows;
-#[cfg(test)]
-mod text_rows;
-#[cfg(test)]
-mod report_rows;
-#[cfg(test)]
 mod answers;
 #[cfg(test)]
 mod calls;
 #[cfg(test)]
 mod faults;
 #[cfg(test)]
+mod hydraulics_rows;
+#[cfg(test)]
 mod io_rows;
+#[cfg(test)]
+mod mesh_rows;
+#[cfg(test)]
+mod number_rows;
+#[cfg(test)]
+mod report_rows;
+#[cfg(test)]
+mod text_rows;
 #[cfg(test)]
 mod whole_cases;
 #[cfg(test)]

@@ -42,7 +42,12 @@ fn rules_of_lines(rt: HostRuntime) -> Result<(), Fail> {
         (1, 3, b"speeds S 0 1 0 1", Some(14)),
         (1, 3, b"speeds S 0 1 0 2.5", Some(5)),
         (1, 3, b"openings O 2 1 1 x", Some(4)),
-        (1, 4, b"reservoir NNNNNNNNNNNNNNNNNNNNNNNNNNNNNNNN 0 100", None),
+        (
+            1,
+            4,
+            b"reservoir NNNNNNNNNNNNNNNNNNNNNNNNNNNNNNNN 0 100",
+            None,
+        ),
         (
             1,
             4,
