@@ -1,0 +1,5 @@
+pub mod Bands
+pub mod Fronts
+pub mod Noted
+pub mod PointProps
+pub mod Stretches

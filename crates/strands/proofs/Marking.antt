@@ -1,0 +1,196 @@
+-- A band that is raised and noted is what the rows have between two fronts.
+use Rattle.std.proofs.Common.{◌≡◌, ℕ, ◌+◌, ◌-◌, ◌<◌, ◌≤◌, ◌⊎◌, inl, inr, ◌∙◌, ap, sym, subst, refl, arith, Bool, true, false, cond, Option, Some, None}
+use Rattle.std.specs.Prelude.{◌||◌}
+use Rattle.std.proofs.Math.Bool.{and-false}
+use Rattle.std.proofs.lemmas.Bool.{lt-ltb, le-ltb, le-leb, lt-leb}
+use Rattle.case_model.specs.declared.cases.ProbeAt.{ProbeAt}
+use Rattle.case_model.specs.declared.cases.ProbeAt.TheVariants.{OnPipe}
+use Rattle.case_model.specs.declared.meshes.Mesh.{Mesh}
+use Rattle.case_model.specs.Meaning.{Meaning}
+use Rattle.case_model.specs.Mesh.{IsNumbered, reaches}
+use Rattle.case_model.specs.PlaceNumbers.{IsOn, number_of, place_at}
+use Rattle.case_model.specs.Rows.{row}
+use Rattle.envelope.specs.Extremes.{first_of}
+use Rattle.envelope.specs.Notings.{Agree, Noted, Noting, union}
+use Rattle.envelope.specs.Notings.Noting.{OfPoint}
+use Rattle.envelope.specs.Rows.{noting_at, rows_noted}
+use Rattle.fronts.specs.Bands.{IsOnMesh, from_ends}
+use Rattle.fronts.specs.Fronts.{Holds, Raises, ever, spot}
+use Rattle.fronts.specs.Noted.{band_noted}
+use Rattle.fronts.specs.Stretches.{AreSamePlaces, count_of, kept}
+use Rattle.fronts.specs.declared.stretches.Stretch.{Stretch}
+use Rattle.fronts.proofs.Lining.{IsOutOfBand, band-in, band-out, in-or-out, is-now, value-of}
+use Rattle.strands.specs.Marks.{Marks, is_between, marked, or_marked}
+use Rattle.strands.specs.Sections.{IsLine}
+
+-- ---- between two fronts
+
+pub between-in : (stretch : Stretch) (front later : ℕ → ℕ) (s k : ℕ) → stretch.number ≤ k
+    → k < stretch.number + count_of stretch → front (k - stretch.number) < s → s ≤ later (k - stretch.number)
+    → is_between stretch front later s k ≡ true
+between-in stretch front later s k a b c d =
+    rw (
+      le-leb stretch.number k a,
+      lt-ltb k (stretch.number + count_of stretch) b,
+      lt-ltb (front (k - stretch.number)) s c,
+      le-leb s (later (k - stretch.number)) d,
+    ) refl
+
+pub between-out : (stretch : Stretch) (front later : ℕ → ℕ) (s k : ℕ)
+    → (k < stretch.number) ⊎ ((stretch.number + count_of stretch ≤ k)
+    ⊎ ((s ≤ front (k - stretch.number)) ⊎ (later (k - stretch.number) < s)))
+    → is_between stretch front later s k ≡ false
+between-out stretch front later s k (inl h) = rw (lt-leb stretch.number k h) refl
+between-out stretch front later s k (inr (inl h)) =
+    rw (le-ltb k (stretch.number + count_of stretch) h, and-false) refl
+between-out stretch front later s k (inr (inr (inl h))) =
+    rw (le-ltb (front (k - stretch.number)) s h, and-false, and-false) refl
+between-out stretch front later s k (inr (inr (inr h))) =
+    rw (lt-leb s (later (k - stretch.number)) h, and-false, and-false, and-false) refl
+
+pub same-between : (old new : Stretch) (front later : ℕ → ℕ) (s k : ℕ) → AreSamePlaces old new
+    → is_between new front later s k ≡ is_between old front later s k
+unfolding count_of
+same-between old new front later s k h = rw (h.number_is, h.count_is) refl
+
+-- ---- what the rows have at the places of a stretch
+
+-- the law of place numbers
+abbrev pub ArePlaces : Type 0
+ArePlaces = (mesh : Mesh) (at : ProbeAt) → IsNumbered mesh → IsOn mesh at → place_at mesh (number_of mesh at) ≡ at
+
+pub rows-at : (law : Meaning) (stretch : Stretch) (t k : ℕ) → ArePlaces → IsLine law stretch
+    → stretch.number ≤ k → k < stretch.number + count_of stretch
+    → rows_noted law t k ≡ Some (OfPoint (spot law stretch t (k - stretch.number)))
+rows-at law stretch t k places line low high =
+    let p = stretch.pipe in
+    let i = stretch.first + (k - stretch.number) in
+    let n : stretch.number ≡ number_of law.mesh (OnPipe p stretch.first) = line.number_is in
+    let fits : stretch.first + count_of stretch ≤ reaches law.mesh p + 1 = line.on_mesh.fits in
+    let e : k ≡ number_of law.mesh (OnPipe p i) = omega arith in
+    ap (λ j. Some (noting_at (row law t) (place_at law.mesh j))) e
+    ∙ ap (λ at. Some (noting_at (row law t) at)) (places law.mesh (OnPipe p i) line.numbered (line.on_mesh.pipe, omega arith))
+
+-- ---- the band
+
+-- a band has what the rows have between the fronts, and nothing else
+abbrev pub IsSplit : Meaning → Noted → Marks → ℕ → ℕ → Type 0
+IsSplit law band marks s k =
+    ((marks s k ≡ true) × (band s k ≡ rows_noted law s k)) ⊎ ((marks s k ≡ false) × (band s k ≡ None))
+
+apart : (s front later : ℕ) → later ≡ front → (s ≤ front) ⊎ (later < s)
+apart s front later e = grind arith
+
+other : (s step front later : ℕ) → (s ≡ step + 1 → ⊥) → front ≡ step → later ≡ step + 1 → (s ≤ front) ⊎ (later < s)
+other s step front later h e f = elim (below s (step + 1)) [
+  | inl a ↦ inl (omega arith)
+  | inr a ↦ elim a [ inl b ↦ absurd (h b) | inr b ↦ inr (omega arith) ]
+]
+  where
+    below : (x y : ℕ) → (x < y) ⊎ ((x ≡ y) ⊎ (y < x))
+    below x y = grind arith
+
+out : (law : Meaning) (stretch : Stretch) (step low high : ℕ) (front later : ℕ → ℕ) (s k : ℕ)
+    → Raises step (from_ends (count_of stretch - 1)) low high (count_of stretch) ever front later
+    → (k < stretch.number) ⊎ ((stretch.number + count_of stretch ≤ k) ⊎ ((stretch.number ≤ k) × (k < stretch.number + count_of stretch)))
+    → IsOutOfBand stretch low high k → is_between stretch front later s k ≡ false
+out law stretch step low high front later s k ra (inl a) h = between-out stretch front later s k (inl a)
+out law stretch step low high front later s k ra (inr (inl a)) h = between-out stretch front later s k (inr (inl a))
+out law stretch step low high front later s k ra (inr (inr a)) (inl h) = between-out stretch front later s k (inl h)
+out law stretch step low high front later s k ra (inr (inr a)) (inr (inl h)) = between-out stretch front later s k (inr (inl h))
+out law stretch step low high front later s k ra (inr (inr a)) (inr (inr h)) =
+    let x = k - stretch.number in
+    let b : x < count_of stretch = (let l : stretch.number ≤ k = a.0 in let r : k < stretch.number + count_of stretch = a.1 in omega arith) in
+    between-out stretch front later s k (inr (inr (apart s (front x) (later x) (ra.others x b h))))
+
+where-is : (k low high : ℕ) → (k < low) ⊎ ((high ≤ k) ⊎ ((low ≤ k) × (k < high)))
+where-is k low high = grind arith
+
+pub split-band : (law : Meaning) (stretch : Stretch) (step low high : ℕ) (front later : ℕ → ℕ) (s k : ℕ)
+    → ArePlaces → IsLine law stretch
+    → Raises step (from_ends (count_of stretch - 1)) low high (count_of stretch) ever front later
+    → Holds law ever later stretch
+    → IsSplit law (band_noted stretch (step + 1) low high) (is_between stretch front later) s k
+split-band law stretch step low high front later s k places line ra h =
+    let x = k - stretch.number in
+    elim (in-or-out stretch low high k) [
+      | inr a ↦ inr (
+        out law stretch step low high front later s k ra (where-is k stretch.number (stretch.number + count_of stretch)) a,
+        band-out stretch (step + 1) low high s k (inr a),
+      )
+      | inl a ↦
+          let l : stretch.number ≤ k = a.0 in
+          let r : k < stretch.number + count_of stretch = a.1 in
+          let b : x < count_of stretch = omega arith in
+          let f : front x ≡ step = (ra.own x b a.2 a.3).1 in
+          let g : later x ≡ step + 1 = ra.raised x b a.2 a.3 in
+          elim (is-now s (step + 1)) [
+            | inl e ↦ inl (
+              between-in stretch front later s k l r (omega arith) (omega arith),
+              band-in stretch (step + 1) low high s k e a
+                  ∙ ap (λ y. Some (OfPoint y)) (h.cell (step + 1) x b (omega arith) (omega arith) (omega arith))
+                  ∙ sym (rows-at law stretch (step + 1) k places line l r)
+                  ∙ ap (λ t. rows_noted law t k) (sym e),
+            )
+            | inr e ↦ inr (
+              between-out stretch front later s k (inr (inr (other s step (front x) (later x) e f g))),
+              band-out stretch (step + 1) low high s k (inl e),
+            )
+          ]
+    ]
+
+-- the same of a stretch of the same places
+pub same-line : (law : Meaning) (old new : Stretch) → AreSamePlaces old new → IsLine law old → IsLine law new
+unfolding count_of
+same-line law old new h line = record {
+  on_mesh = record {
+    pipe = rw (h.pipe_is) line.on_mesh.pipe;
+    fits = rw (h.pipe_is, h.first_is, h.count_is) line.on_mesh.fits;
+    small = rw (h.pipe_is) line.on_mesh.small;
+  };
+  numbered = line.numbered;
+  number_is = rw (h.pipe_is, h.first_is, h.number_is) line.number_is;
+  long = rw (h.count_is) line.long;
+  few = rw (h.number_is, h.count_is) line.few;
+}
+
+pub same-split : (law : Meaning) (old new : Stretch) (step low high : ℕ) (front later : ℕ → ℕ)
+    → ArePlaces → IsLine law old → AreSamePlaces old new
+    → Raises step (from_ends (count_of old - 1)) low high (count_of old) ever front later
+    → Holds law ever later new → (s k : ℕ)
+    → IsSplit law (band_noted new (step + 1) low high) (is_between old front later) s k
+same-split law old new step low high front later places line same ra h s k =
+    let ra' = subst (λ n. Raises step (from_ends (n - 1)) low high n ever front later) (sym same.count_is) ra in
+    let e = sym (same-between old new front later s k same) in
+    elim (split-band law new step low high front later s k places (same-line law old new same line) ra' h) [
+      | inl a ↦ inl (e ∙ a.0, a.1)
+      | inr a ↦ inr (e ∙ a.0, a.1)
+    ]
+
+-- ---- maps with what is between
+
+together : (m b : Bool) (r band : Option Noting) (z : Noting) → r ≡ Some z
+    → ((b ≡ true) × (band ≡ r)) ⊎ ((b ≡ false) × (band ≡ None))
+    → first_of (cond m r None) band ≡ cond (m || b) r None
+together true b r band z e h = rw e refl
+together false b r band z e (inl h) = rw (h.0, h.1) refl
+together false b r band z e (inr h) = rw (h.0, h.1) refl
+
+pub union-marked : (law : Meaning) (band : Noted) (marks more : Marks) (s k : ℕ) → IsSplit law band more s k
+    → union (marked law marks) band s k ≡ marked law (or_marked marks more) s k
+unfolding marked
+union-marked law band marks more s k h =
+    together (marks s k) (more s k) (rows_noted law s k) (band s k) (noting_at (row law s) (place_at law.mesh k)) refl h
+
+pub agree-marked : (law : Meaning) (band : Noted) (marks more : Marks) → ((s k : ℕ) → IsSplit law band more s k)
+    → Agree (marked law marks) band
+unfolding marked
+agree-marked law band marks more h s k x y a b =
+    let z = noting_at (row law s) (place_at law.mesh k) in
+    let v : x ≡ z = value-of (marks s k) z x a in
+    v ∙ sym (one (rows_noted law s k) (band s k) y z refl b (h s k))
+  where
+    one : {b c : Type 0} (r band : Option Noting) (y z : Noting) → r ≡ Some z → band ≡ Some y
+        → (b × (band ≡ r)) ⊎ (c × (band ≡ None)) → y ≡ z
+    one r band y z e f (inl h) = let g : band ≡ r = h.1 in cc
+    one r band y z e f (inr h) = let g : band ≡ None = h.1 in cc

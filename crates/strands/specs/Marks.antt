@@ -1,0 +1,24 @@
+-- Points of the rows of a law that are marked by step and place number, and those between two fronts of a stretch.
+use Rattle.std.specs.Prelude.{ℕ, ◌+◌, ◌-◌, ◌||◌, ◌&&◌, nat_le, nat_lt, Bool, if◌then◌else◌, None}
+use Rattle.case_model.specs.Meaning.{Meaning}
+use Rattle.envelope.specs.Notings.{Noted}
+use Rattle.envelope.specs.Rows.{rows_noted}
+use Rattle.fronts.specs.Stretches.{count_of}
+use Rattle.fronts.specs.declared.stretches.Stretch.{Stretch}
+
+-- which steps (the first number) and place numbers
+abbrev pub Marks : Type 0
+Marks = ℕ → ℕ → Bool
+
+-- what the rows have at the marked steps and places, as a fold is told it
+unfoldable pub marked : Meaning → Marks → Noted
+marked law marks s k = if marks s k then rows_noted law s k else None
+
+abbrev pub or_marked : Marks → Marks → Marks
+or_marked one other s k = one s k || other s k
+
+-- the steps behind one front of a stretch up to another, place by place
+abbrev pub is_between : Stretch → (ℕ → ℕ) → (ℕ → ℕ) → Marks
+is_between stretch front later s k =
+    nat_le stretch.number k && (nat_lt k (stretch.number + count_of stretch)
+    && (nat_lt (front (k - stretch.number)) s && nat_le s (later (k - stretch.number))))

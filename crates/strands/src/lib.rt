@@ -1,0 +1,6 @@
+//! The strands of a layout: how each computes its regions of space and time from the blocks of its neighbours.
+#![tactic(auto)]
+
+mod sections;
+
+pub use sections::{advance, advance_region, advance_start};

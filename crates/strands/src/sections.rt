@@ -1,0 +1,79 @@
+//! The regions of a section: first the tent over its two stations, then one band after another.
+ghost use Rattle.std.specs.Prelude.{◌≡◌, ℕ, ◌+◌, ◌-◌, ◌*◌, ◌^◌, ◌<◌, ◌≤◌};
+ghost use Rattle.case_model.specs.Meaning.{Meaning};
+ghost use Rattle.fronts.specs.Bands.{from_ends};
+ghost use Rattle.fronts.specs.Fronts.{Holds, Raises, ever, loaded, risen, tent};
+ghost use Rattle.fronts.specs.Stretches.{count_of};
+ghost use Rattle.strands.specs.Sections.{IsAdvanced, IsLine, NotesInside};
+
+use case_model::Law;
+use envelope::{Fold, numbers_tell_places, stands_for_equal_maps};
+use fronts::Stretch;
+
+/// Raises the places of a section whose distance from the nearer station is at least `low` and below `high` to the step
+/// after `step`, and notes them.
+pub fn advance<L: Law>(
+    law: &L,
+    stretch: &mut Stretch,
+    fold: &mut Fold,
+    step: u64,
+    low: usize,
+    high: usize,
+)
+    requires line { IsLine (L.meaning law.now) stretch.old }
+    requires noted { NotesInside stretch.old fold.old }
+    requires room { step + 1 < 2 ^ 64 }
+    requires after_first { 0 < low }
+    ensures { (front later : ℕ → ℕ) →
+        Raises step (from_ends (count_of stretch.old - 1)) low high (count_of stretch.old) ever front later →
+        Holds (L.meaning law.now) ever front stretch.old →
+        IsAdvanced (L.meaning law.now) front later stretch.old stretch.new fold.old fold.new }
+{
+    numbers_tell_places();
+    stands_for_equal_maps();
+    stretch.step_band(law, step, low, high);
+    stretch.note_band(fold, step + 1, low, high);
+}
+
+/// Region 0 of a section: from row 0 to the tent over its two stations.
+pub fn advance_start<L: Law>(law: &L, stretch: &mut Stretch, fold: &mut Fold)
+    requires line { IsLine (L.meaning law.now) stretch.old }
+    requires noted { NotesInside stretch.old fold.old }
+    requires holds { Holds (L.meaning law.now) ever (risen (count_of stretch.old - 1) 0) stretch.old }
+    ensures { let n = count_of stretch.old - 1 in
+        IsAdvanced (L.meaning law.now) (risen n 0) (tent 0 n) stretch.old stretch.new fold.old fold.new }
+{
+    stands_for_equal_maps();
+    let last = stretch.count() - 1;
+    for k in 1..last / 2 + 1 {
+        advance(law, stretch, fold, (k - 1) as u64, k, last);
+    }
+}
+
+/// A later region of a section, over the window of so many steps after `start`: the blocks of both stations are loaded,
+/// and the tent is raised by a window.
+pub fn advance_region<L: Law>(
+    law: &L,
+    window: usize,
+    start: u64,
+    stretch: &mut Stretch,
+    fold: &mut Fold,
+)
+    requires line { IsLine (L.meaning law.now) stretch.old }
+    requires noted { NotesInside stretch.old fold.old }
+    requires some { 1 ≤ window }
+    requires long { window + 1 ≤ count_of stretch.old }
+    requires room { start + 2 * count_of stretch.old < 2 ^ 64 }
+    requires holds { let n = count_of stretch.old - 1 in
+        Holds (L.meaning law.now) ever (loaded start window n) stretch.old }
+    ensures { let n = count_of stretch.old - 1 in
+        IsAdvanced (L.meaning law.now) (loaded start window n) (tent (start + window) n)
+        stretch.old stretch.new fold.old fold.new }
+{
+    stands_for_equal_maps();
+    let last = stretch.count() - 1;
+    for k in window / 2 + 1..window + last / 2 + 1 {
+        let low = (window + 1).saturating_sub(k).max(k.saturating_sub(window));
+        advance(law, stretch, fold, start + (k - 1) as u64, low, k);
+    }
+}
