@@ -1,13 +1,7 @@
-//! The worked rows: tables of calls and of whole cases whose answers were worked out by hand or by another
-//! program. It has tests alone, so that the crates below are proved once.
+//! The worked rows: tables of calls of the lower crates whose answers were worked out by hand. It has tests alone,
+//! so that the crates below are proved once.
 #![tactic(auto)]
 
-#[cfg(test)]
-mod answers;
-#[cfg(test)]
-mod calls;
-#[cfg(test)]
-mod faults;
 #[cfg(test)]
 mod hydraulics_rows;
 #[cfg(test)]
@@ -18,9 +12,5 @@ mod mesh_rows;
 mod number_rows;
 #[cfg(test)]
 mod report_rows;
-#[cfg(test)]
-mod text_rows;
-#[cfg(test)]
-mod whole_cases;
 #[cfg(test)]
 mod words_rows;

@@ -1,23 +1,16 @@
-//! Rows of meshes: layouts, neighbours, regions and blocks of strands, and plans.
+//! Rows of meshes: neighbours, regions and blocks of strands, and plans.
 ghost use Rattle.std.specs.Prelude.{◌≤◌, ◌<◌, IfOk, length};
 ghost use Rattle.case_model.specs.Accepted.{IsAccepted};
 ghost use Rattle.regions.specs.LaidOut.{IsLaidOut, IsLayout};
 
 use case_model::{Case, Mesh};
 use netfile::read_case;
-use regions::{Layout, Shape, Spot, WIDEST_WINDOW, layout};
+use regions::{Layout, Spot, WIDEST_WINDOW, layout};
 use schedule::{Event, MOST_SLOTS, Plan};
 use std::alloc::{AllocError, Global};
 use std::test::Fail;
 
-// A pipe of 512 reaches.
-const LONG: &[u8] =
-    b"surge 1\nstep 0.1\nsteps 6\nreservoir A 0 100\nreservoir B 0 100\npipe P A B 51200 1 1000 0 0\n";
-
-// A pipe of 2 reaches, and one of 7.
-const STILL: &[u8] =
-    b"surge 1\nstep 0.1\nsteps 2\nreservoir A 0 100\nreservoir B 0 100\npipe P A B 200 1 1000 0 0\n";
-
+// A pipe of 7 reaches.
 const SEVEN: &[u8] =
     b"surge 1\nstep 0.1\nsteps 6\nreservoir A 0 100\nreservoir B 0 100\npipe P A B 700 1 1000 0 0\n";
 
@@ -48,40 +41,6 @@ fn cut(alloc: Global, text: &[u8], wish: u64) -> Result<(Mesh, Layout), AllocErr
     let (case, mesh) = case_in(alloc, text)?;
     let layout = layout(alloc, &case, &mesh, wish)?;
     Ok((mesh, layout))
-}
-
-// How many regions all strands have: stations one for each window, sections one more.
-fn regions_of(layout: &Layout) -> u64 {
-    let mut count = 0u64;
-    for shape in layout.shapes.as_slice() {
-        count = count.saturating_add(layout.windows);
-        if let Shape::OfSection { .. } = *shape {
-            count = count.saturating_add(1);
-        }
-    }
-    count
-}
-
-// By hand: 512 reaches are 2 sections of 256 or 8 of 64; 7 and 2 reaches have no seam; the chain
-// has 3 nodes, 19 seams and 1 + 20 sections in 5 windows.
-#[test]
-fn layouts_by_hand(rt: HostRuntime) -> Result<(), Fail> {
-    for (text, wish, window, strands, regions) in [
-        (LONG, 256, 256, 5, 7),
-        (LONG, 128, 128, 9, 13),
-        (LONG, 64, 64, 17, 25),
-        (CHAIN, 64, 2, 43, 236),
-        (SEVEN, 4, 4, 3, 7),
-        (STILL, 256, 2, 3, 4),
-        (STILL, 1, 1, 3, 7),
-    ] {
-        assert!(&rt; wish >= 1 && wish <= WIDEST_WINDOW);
-        let (_, layout) = cut(rt.alloc(), text, wish)?;
-        assert_eq!(&rt; layout.window, window);
-        assert_eq!(&rt; layout.shapes.as_slice().len(), strands);
-        assert_eq!(&rt; regions_of(&layout), regions);
-    }
-    Ok(())
 }
 
 // The neighbour of a strand at an index and the index back, where there is one.

@@ -1,5 +1,5 @@
 //! Words against the job that they name, worked out by hand from what the command line says.
-use surge_top::{Command, Job, WordsFault, read_words};
+use command_words::{Command, Job, WordsFault, read_words};
 
 fn job(command: Command, number: u32, workers: u32, slots: u64, window: u64) -> Job {
     Job {
