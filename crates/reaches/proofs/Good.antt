@@ -19,7 +19,7 @@ use Rattle.case_model.specs.Parts.{pipe_at, no_pipe}
 use Rattle.case_model.specs.Ends.{end_if, ends_at}
 use Rattle.case_model.specs.Division.{divides, place_base, reaches_at, node_ends, AreEnds, pipe_mesh, mesh_of}
 use Rattle.case_model.specs.Refusals.{part_rules}
-use Rattle.reaches.proofs.Divided.{divided}
+use Rattle.reaches.proofs.Divided.{counted as has_count}
 use Rattle.std.proofs.lemmas.Bool.{or_right}
 use Rattle.case_model.proofs.Keeping.{all_divided}
 use Rattle.case_model.proofs.ListFacts.{passes}
@@ -96,7 +96,7 @@ found case read p h false = found_at case p (pipe_at case p).first false ((joine
 
 counted : (case : Case) (p : ℕ) → divides case p ≡ true → (2 ≤ reaches_at case p) × (reaches_at case p ≤ 65_536)
 unfolding divides
-counted case p d = let a = divided case.dt case.tolerance (pipe_at case p) d in (a.some, a.few)
+counted case p d = let a = has_count case.dt case.tolerance (pipe_at case p) d in (a.some, a.few)
 
 pub mesh_good : (case : Case) → IsRead case → IsEmpty (part_rules case) → IsMesh (mesh_of case)
 mesh_good case read empty =

@@ -29,7 +29,7 @@ kept most x h = rw h refl
 over : (most x : ℤ) → int_le x most ≡ false → cut most x ≡ most +ℤ pos 1
 over most x h = rw h refl
 
-and_false : (b : Bool) → (b && false) ≡ false
+pub and_false : (b : Bool) → (b && false) ≡ false
 and_false true = refl
 and_false false = refl
 
