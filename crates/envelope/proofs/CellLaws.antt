@@ -1,8 +1,10 @@
 -- Laws of places and spans, for callers.
-use Rattle.std.proofs.Common.{◌≡◌, ℕ, ◌+◌, ◌<◌, ◌≤◌, true, List, [], ◌∷◌, length, get_or, subst, sym, arith}
+use Rattle.std.proofs.Common.{◌≡◌, ℕ, ◌+◌, ◌<◌, ◌≤◌, true, List, [], ◌∷◌, length, get_or, subst}
+use Rattle.std.proofs.Common.{sym, arith}
 use Rattle.std.proofs.lemmas.Bool.Decides.{nat_tests}
 use Rattle.std.proofs.lemmas.List.Folds.{list_any_at}
-use Rattle.envelope.specs.Cells.{no_span, has_place, is_within, first_of_span, end_of_span, AreInSpan, AreInOneSpan}
+use Rattle.envelope.specs.Cells.{no_span, has_place, is_within, first_of_span, end_of_span}
+use Rattle.envelope.specs.Cells.{AreInSpan, AreInOneSpan}
 
 has-place : (k : ℕ) (span : ℕ × ℕ) → span.0 ≤ k → k < span.0 + span.1 → has_place k span ≡ true
 has-place k span low high = grind (arith, nat_tests)
