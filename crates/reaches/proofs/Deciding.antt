@@ -1,5 +1,5 @@
 -- What is decided of a pipe: it can be divided exactly where it breaks no rule.
-use Rattle.std.proofs.Common.{◌≡◌, ℕ, ◌+◌, ◌<◌, ◌≤◌, ◌==◌, ◌&&◌, ◌||◌, not, Bool, true, false, ℤ, pos, List, [], ◌∷◌, ◌++◌, length, get_or, Result, Ok, Err, Some, None, MatchResult, inl, inr, refl, ap, subst, sym, ◌∙◌, arith}
+use Rattle.std.proofs.Common.{◌≡◌, ℕ, ◌+◌, ◌≤◌, ◌==◌, ◌&&◌, ◌||◌, not, Bool, true, false, ℤ, pos, List, [], ◌∷◌, ◌++◌, length, get_or, Result, Ok, Err, MatchResult, inl, inr, refl, ap, subst, sym, ◌∙◌, arith}
 use Rattle.std.proofs.lemmas.Int.{ints}
 use Rattle.std.proofs.lemmas.Bool.{cases_lt}
 use Rattle.std.proofs.lemmas.List.{get_or_append_left, get_or-append-add, length-append, get_or_past}
@@ -11,7 +11,7 @@ use Rattle.case_model.specs.Parts.{no_pipe, pipe_at}
 use Rattle.case_model.specs.Division.{is_count, is_adjusted, are_accepted, has_coefficients, is_divided, divides}
 use Rattle.case_model.specs.Refusals.{breaks_pipe}
 use Rattle.reaches.specs.declared.pipes.Division.{Division}
-use Rattle.reaches.specs.Decided.{IsInReaches, IsJudged, IsDecided, IsDivision, AreDecidedTo, AreDecided}
+use Rattle.reaches.specs.Decided.{IsInReaches, IsDecided, IsDivision, AreDecidedTo, AreDecided}
 use Rattle.reaches.proofs.Divided.{are_kept}
 use Rattle.reaches.proofs.Sizes.{and_false, accepted_as_cut}
 

@@ -1,10 +1,9 @@
 -- What holds of a pipe that can be divided.
-use Rattle.std.proofs.Common.{◌≡◌, ℕ, ◌≤◌, ◌==◌, ◌&&◌, not, Bool, true, false, ℤ, pos, ◌≤ℤ◌, int_le, refl, arith}
+use Rattle.std.proofs.Common.{◌≡◌, ℕ, ◌≤◌, ◌==◌, ◌&&◌, not, true, ℤ, pos, ◌≤ℤ◌, int_le, refl, arith}
 use Rattle.std.proofs.lemmas.Bool.{and_parts}
-use Rattle.std.proofs.lemmas.Int.{ints}
 use Rattle.std.proofs.lemmas.Bool.Decides.{nat_tests}
 use Rattle.case_model.specs.declared.cases.Pipe.{Pipe}
-use Rattle.case_model.specs.Formulas.{cut, reach_count, b_of, r_of}
+use Rattle.case_model.specs.Formulas.{cut, reach_count}
 use Rattle.case_model.specs.Division.{is_count, is_adjusted, are_accepted, has_coefficients, is_divided}
 use Rattle.fixed_num.proofs.Orders.{at_most_of}
 

@@ -1,6 +1,5 @@
 -- The least broken rule of more and more items.
-use Rattle.std.proofs.Common.{◌≡◌, ℕ, zero, suc, ◌+◌, ◌||◌, Bool, true, false, Option, Some, None, refl, ap, subst, sym, ◌∙◌, add-one, arith}
-use Rattle.std.specs.List.{list_any, range_with_len}
+use Rattle.std.proofs.Common.{◌≡◌, ℕ, ◌+◌, Option, Some, None, subst, sym, ◌∙◌, arith}
 use Rattle.case_model.specs.Search.{Refusal}
 use Rattle.case_model.proofs.Sets.{any_next}
 use Rattle.case_model.specs.Sets.{Rules, IsLeast, either, any_below}

@@ -1,17 +1,14 @@
 -- A case without refusal: each pipe is divided, and the mesh is one in which rows can be computed.
-use Rattle.std.proofs.Common.{◌≡◌, ℕ, zero, suc, ◌+◌, ◌<◌, inl, inr, ◌==◌, ◌&&◌, ◌||◌, not, Bool, true, false, ℤ, pos, List, [], ◌∷◌, ◌++◌, length, map, refl, ap, subst, sym, ◌∙◌, add-one, arith}
-use Rattle.std.specs.List.{range_with_len}
-use Rattle.std.proofs.lemmas.Bool.{and_parts, cases_lt, eq-eqb, eqb-true}
+use Rattle.std.proofs.Common.{◌≡◌, ℕ, ◌+◌, ◌<◌, inr, ◌==◌, ◌&&◌, true, false, length, sym, ◌∙◌, arith}
+use Rattle.std.proofs.lemmas.Bool.{and_parts, eqb-true}
 use Rattle.std.proofs.lemmas.List.Sums.{sum_by_more}
-use Rattle.std.proofs.lemmas.List.FromFn.{map-range_with_len_more}
 use Rattle.case_model.specs.declared.cases.Case.{Case}
-use Rattle.case_model.specs.declared.cases.Pipe.{Pipe}
 use Rattle.case_model.specs.declared.meshes.PipeMesh.{PipeMesh}
-use Rattle.case_model.specs.Sets.{Rules, IsEmpty, IsLeast, any_below}
-use Rattle.case_model.specs.Formulas.{reach_count, cut, b_of, r_of}
-use Rattle.case_model.specs.Parts.{pipe_at, no_pipe}
-use Rattle.case_model.specs.Division.{is_count, is_adjusted, has_coefficients, divides, place_base, reaches_at, pipe_mesh}
-use Rattle.case_model.specs.Refusals.{breaks_pipe, pipe_rules, node_rules, probe_rules, part_rules, is_too_large, size_rules}
+use Rattle.case_model.specs.Sets.{IsEmpty, IsLeast}
+use Rattle.case_model.specs.Formulas.{reach_count}
+use Rattle.case_model.specs.Parts.{no_pipe}
+use Rattle.case_model.specs.Division.{place_base, reaches_at, pipe_mesh}
+use Rattle.case_model.specs.Refusals.{is_too_large, size_rules}
 use Rattle.reaches.specs.declared.pipes.Division.{Division}
 use Rattle.reaches.specs.Decided.{IsDivision}
 

@@ -1,9 +1,9 @@
 //! The coefficients of a pipe in reaches.
-ghost use Rattle.std.specs.Prelude.{◌≡◌, ◌+◌, ◌*◌, ◌<◌, ◌≤◌, ◌≤ℤ◌, ℤ, pos};
+ghost use Rattle.std.specs.Prelude.{◌≡◌, ◌*◌, ◌≤◌, pos};
 ghost use Rattle.case_model.specs.Limits.{IsPipe, IsWithin};
-ghost use Rattle.case_model.specs.Formulas.{area as area_of, nearest_reaches as nearest_of};
+ghost use Rattle.case_model.specs.Formulas.{area as area_of};
 ghost use Rattle.case_model.specs.Formulas.{impedance as impedance_of, resistance as resistance_of};
-ghost use Rattle.case_model.specs.Formulas.{cut, reach_count as count_of, b_of, r_of};
+ghost use Rattle.case_model.specs.Formulas.{cut, b_of, r_of};
 
 use crate::quotients::{product, quotient, size};
 use case_model::Pipe;

@@ -1,5 +1,5 @@
 //! The pipes of a case in reaches.
-ghost use Rattle.std.specs.Prelude.{◌≡◌, ◌+◌, ◌*◌, ◌<◌, ◌≤◌, ℕ, true, IfOk, length, map};
+ghost use Rattle.std.specs.Prelude.{◌≡◌, ◌+◌, ◌<◌, ℕ, true, IfOk, length, map};
 ghost use Rattle.std.specs.List.{range_with_len};
 ghost use Rattle.case_model.specs.Limits.{IsRead};
 ghost use Rattle.case_model.specs.Division.{divides, place_base, pipe_mesh};

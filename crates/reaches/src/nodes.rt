@@ -1,5 +1,5 @@
 //! The rules of division that a node breaks by itself.
-ghost use Rattle.std.specs.Prelude.{◌≡◌, ◌≤◌, ◌<◌, length};
+ghost use Rattle.std.specs.Prelude.{◌≡◌, ◌<◌, length};
 ghost use Rattle.case_model.specs.Limits.{IsKind, IsNode, IsRead};
 ghost use Rattle.case_model.specs.Division.{node_ends, AreEnds};
 ghost use Rattle.case_model.specs.Sets.{FindsLeast, any_below};

@@ -1,5 +1,5 @@
 //! What division decides of each pipe: its reaches and coefficients, or the rule that it breaks.
-ghost use Rattle.std.specs.Prelude.{◌≡◌, ◌≤◌, ◌<◌, ℤ, true, false, length, pos};
+ghost use Rattle.std.specs.Prelude.{◌≡◌, ◌≤◌, ◌<◌, ℤ, false, length, pos};
 ghost use Rattle.std.specs.Prelude.{Err, IfOk, MatchOption, slice_index_or};
 ghost use Rattle.case_model.specs.declared.cases.Pipe.{Pipe as PipeSeen};
 ghost use Rattle.case_model.specs.Limits.{IsPipe, IsRead, IsWithin};

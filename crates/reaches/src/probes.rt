@@ -1,5 +1,5 @@
 //! The rule of division that a probe breaks by itself.
-ghost use Rattle.std.specs.Prelude.{◌≡◌, ◌≤◌, ◌<◌, length, ◌==◌, ◌&&◌};
+ghost use Rattle.std.specs.Prelude.{◌≡◌, ◌<◌, length, ◌==◌, ◌&&◌};
 ghost use Rattle.case_model.specs.Limits.{IsRead};
 ghost use Rattle.case_model.specs.Sets.{FindsLeast, any_below};
 ghost use Rattle.case_model.specs.Bounds.{LeastOrNone};

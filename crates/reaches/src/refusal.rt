@@ -1,5 +1,5 @@
 //! The least of the broken rules.
-ghost use Rattle.std.specs.Prelude.{◌≡◌, ℕ, Bool, Option, Some};
+ghost use Rattle.std.specs.Prelude.{ℕ, Bool, Option, Some};
 ghost use Rattle.case_model.specs.Sets.{Rules, FindsLeast, on_line, either};
 ghost use Rattle.case_model.specs.Bounds.{LeastOrNone};
 

@@ -1,5 +1,5 @@
 //! What division asks of a pipe: its reaches, their adjustment, its coefficients.
-ghost use Rattle.std.specs.Prelude.{◌≡◌, ◌+◌, ◌*◌, ◌<◌, ◌≤◌, ◌≤ℤ◌, ℤ, pos, true, IsTrue};
+ghost use Rattle.std.specs.Prelude.{◌≡◌, ◌*◌, ◌<◌, ◌≤◌, pos};
 ghost use Rattle.case_model.specs.Limits.{IsPipe, IsWithin};
 ghost use Rattle.case_model.specs.Formulas.{nearest_reaches as nearest_of, reach_count as count_of};
 ghost use Rattle.case_model.specs.Division.{is_count as is_count_of, is_adjusted as is_adjusted_of};

@@ -1,5 +1,5 @@
 //! The rule of division on a valve: its loss against the impedance of the pipes that end there.
-ghost use Rattle.std.specs.Prelude.{◌≡◌, ◌+ℤ◌, ◌*◌, ◌≤◌, ◌<◌, [], ◌∷◌, length, pos, true};
+ghost use Rattle.std.specs.Prelude.{◌≡◌, ◌+ℤ◌, ◌*◌, ◌≤◌, [], ◌∷◌, pos};
 ghost use Rattle.case_model.specs.Limits.{IsValve, IsWithin};
 ghost use Rattle.case_model.specs.Refusals.{is_over as is_over_of, valve_over as valve_over_of};
 ghost use Rattle.reaches.specs.Decided.{AreDecided};
