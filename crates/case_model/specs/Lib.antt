@@ -4,6 +4,7 @@ pub mod Division
 pub mod Ends
 pub mod FirstFault
 pub mod Formulas
+pub mod Joints
 pub mod Kept
 pub mod Lending
 pub mod Limits

@@ -17,4 +17,5 @@ pub record IsRule (rule : CavityRule) : Type 0 where
 -- its growth now in 1e-9 m3/s; it may be negative
 unfoldable pub cavity_volume : CavityRule → ℤ → ℤ → ℤ → ℤ
 cavity_volume rule volume before now =
-    volume +ℤ rnd (rule.dt *ℤ ((rule.psi *ℤ now) +ℤ ((pos 10 -ℤ rule.psi) *ℤ before))) (pos 10_000_000)
+    volume +ℤ rnd (rule.dt *ℤ ((rule.psi *ℤ now) +ℤ ((pos 10 -ℤ rule.psi) *ℤ before)))
+    (pos 10_000_000)

@@ -1,8 +1,9 @@
 -- Characteristics along a pipe: the compatibility equations, with the flow at the point that the
--- characteristic leaves. A characteristic is the line `h = c - z*q` with a value c and an impedance z.
--- Friction is taken explicitly, as a loss of head in c, or linearly, as a part of z. After Wylie and
--- Streeter, Fluid Transients in Systems: method of characteristics, friction term.
-use Rattle.std.specs.Prelude.{◌≤◌, nat_le, ℤ, pos, ◌+ℤ◌, ◌-ℤ◌, ◌*ℤ◌, ◌≤ℤ◌, int_le, ◌&&◌, unsigned_abs, Option, Some, None, if◌then◌else◌}
+-- characteristic leaves. A characteristic is the line `h = c - z*q` with a value c and an impedance
+-- z. Friction is taken explicitly, as a loss of head in c, or linearly, as a part of z. After Wylie
+-- and Streeter, Fluid Transients in Systems: method of characteristics, friction term.
+use Rattle.std.specs.Prelude.{◌≤◌, nat_le, ℤ, pos, ◌+ℤ◌, ◌-ℤ◌, ◌*ℤ◌, ◌≤ℤ◌, int_le, ◌&&◌}
+use Rattle.std.specs.Prelude.{unsigned_abs, Option, Some, None, if◌then◌else◌}
 use Rattle.fixed_num.specs.Rounding.{rnd}
 use Rattle.case_model.specs.declared.cases.Friction.{Friction}
 use Rattle.case_model.specs.declared.cases.Friction.TheVariants.{Explicit, Linear}
@@ -32,7 +33,8 @@ impedance_head b q = rnd (b *ℤ q) (pos 1_000_000_000)
 -- the head in 1e-6 m that friction takes along one reach: rounded once for the loss at a unit of
 -- flow, and once for the loss at this flow, in the direction of the flow
 unfoldable pub friction_head : ℤ → ℤ → ℤ
-friction_head r q = rnd (rnd (r *ℤ pos (unsigned_abs q)) (pos 1_000_000_000_000) *ℤ q) (pos 1_000_000_000_000)
+friction_head r q =
+    rnd (rnd (r *ℤ pos (unsigned_abs q)) (pos 1_000_000_000_000) *ℤ q) (pos 1_000_000_000_000)
 
 -- the impedance in 1e-6 s/m2 of a reach with its friction at this flow
 unfoldable pub friction_impedance : ℤ → ℤ → ℤ → ℤ

@@ -1,5 +1,6 @@
--- Where both characteristics have the impedance of the pipe, as with friction taken explicitly, they meet
--- at half of the sum of their values, with their difference over twice the impedance for the flow.
+-- Where both characteristics have the impedance of the pipe, as with friction taken explicitly,
+-- they meet at half of the sum of their values, with their difference over twice the impedance for
+-- the flow.
 use Rattle.std.specs.Prelude.{◌≡◌, ℤ, pos, ◌+ℤ◌, ◌-ℤ◌, ◌*ℤ◌, ◌≤ℤ◌}
 use Rattle.fixed_num.specs.Rounding.{rnd}
 use Rattle.case_model.specs.declared.meshes.Arrival.{Arrival}

@@ -1,8 +1,9 @@
 -- The interior law: a place of a pipe from the characteristics of both sides. Without a cavity the
--- place has one flow; where the head of the liquid would fall below the vapour head, it is held there
--- and a cavity grows by the difference of the flows on its two sides. After Wylie and Streeter, Fluid
--- Transients in Systems: method of characteristics, column separation.
-use Rattle.std.specs.Prelude.{ℤ, pos, ◌+ℤ◌, ◌-ℤ◌, ◌*ℤ◌, int_le, int_lt, unsigned_abs, ◌==◌, ◌&&◌, Option, Some, None, if◌then◌else◌}
+-- place has one flow; where the head of the liquid would fall below the vapour head, it is held
+-- there and a cavity grows by the difference of the flows on its two sides. After Wylie and
+-- Streeter, Fluid Transients in Systems: method of characteristics, column separation.
+use Rattle.std.specs.Prelude.{ℤ, pos, ◌+ℤ◌, ◌-ℤ◌, ◌*ℤ◌, int_le, int_lt, unsigned_abs, ◌==◌, ◌&&◌}
+use Rattle.std.specs.Prelude.{Option, Some, None, if◌then◌else◌}
 use Rattle.std.specs.Int.{int_max}
 use Rattle.fixed_num.specs.Rounding.{rnd}
 use Rattle.case_model.specs.declared.cases.Friction.{Friction}
@@ -50,7 +51,8 @@ meet rule plus minus volume before =
     if (unsigned_abs volume == 0) && int_le rule.hv (meeting_head plus minus)
     then liquid (meeting_head plus minus) (meeting_flow plus minus)
     else kept_or_closed rule plus minus
-    (cavity_volume rule volume before (growth (flow_before rule.hv plus) (flow_after rule.hv minus)))
+    (cavity_volume rule volume before
+    (growth (flow_before rule.hv plus) (flow_after rule.hv minus)))
 
 -- the same, Bad where a characteristic is out of range
 abbrev pub meet_if : CavityRule → Option Arrival → Option Arrival → ℤ → ℤ → Point
@@ -58,8 +60,8 @@ meet_if rule (Some plus) (Some minus) volume before = meet rule plus minus volum
 meet_if rule (Some plus) None volume before = Bad
 meet_if rule None minus volume before = Bad
 
--- the interior law, of the neighbours' points and the place's own one step earlier: Bad where a point
--- that it reads is
+-- the interior law, of the neighbours' points and the place's own one step earlier: Bad where a
+-- point that it reads is
 unfoldable pub inner_point : Friction → CavityRule → ℤ → ℤ → Point → Point → Point → Point
 inner_point friction rule b r left (Good h qu qd v) right =
     meet_if rule (arrive_plus friction b r left) (arrive_minus friction b r right) v (growth qu qd)

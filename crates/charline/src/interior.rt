@@ -153,7 +153,9 @@ fn explicit_if(rule: &CavityRule, b: i64, plus: Option<i64>, minus: Option<i64>,
     requires impedance { IsImpedance b }
     requires plus_in { IfSome plus (λ c. unsigned_abs c ≤ 10_000_000_000_000) }
     requires minus_in { IfSome minus (λ c. unsigned_abs c ≤ 10_000_000_000_000) }
-    ensures { result ≡ meet_of rule.now (with_impedance b plus) (with_impedance b minus) old.now.volume old.now.growth }
+    ensures { result
+        ≡ meet_of rule.now (with_impedance b plus)
+        (with_impedance b minus) old.now.volume old.now.growth }
 {
     match (plus, minus) {
         (Some(plus), Some(minus)) => explicit_meet(

@@ -4,7 +4,8 @@ use Rattle.std.specs.Prelude.{◌≡◌, ◌≢◌, ℕ, ◌+◌, Bool, false, [
 use Rattle.atomic_table.specs.Table.{Me}
 use Rattle.claimboard.specs.declared.views.View.{View}
 use Rattle.claimboard.specs.Items.{IsItem}
-use Rattle.claimboard.specs.Views.{Has, free_word, finished_word, found_view, holding, fresh_view, dealt_or_0, IsOthers}
+use Rattle.claimboard.specs.Views.{Has, free_word, finished_word, found_view, holding, fresh_view}
+use Rattle.claimboard.specs.Views.{dealt_or_0, IsOthers}
 
 module _ {T G : Type 0} where
   -- Peek: a load of a state word. An item that was found finished is found finished ever after

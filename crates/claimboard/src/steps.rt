@@ -1,7 +1,8 @@
 //! The kinds of step of a board, as `specs/Steps.antt` says them.
 ghost use Rattle.std.specs.Prelude.{◌≡◌, ℕ, ◌^◌, ◌<◌, true, false, [], ◌∷◌, Some, None};
 ghost use Rattle.claimboard.specs.Items.{IsItem};
-ghost use Rattle.claimboard.specs.Steps.{peeked, claimed, taken_out, put_back, stored, dealing, dealt_view, copy_of};
+ghost use Rattle.claimboard.specs.Steps.{peeked, claimed, taken_out, put_back, stored, dealing};
+ghost use Rattle.claimboard.specs.Steps.{dealt_view, copy_of};
 
 use crate::items::Item;
 use crate::rule::{Place, Top};

@@ -19,8 +19,12 @@ use Rattle.endhistory.specs.Seats.{Place, WritesWith, ReadsWith, HasAsked, AllFr
 use Rattle.endhistory.proofs.Slots.{risen}
 use Rattle.endhistory.proofs.StepsAllowed.{checks, fills, takes, publishes}
 
-pub range_more : (n : ℕ) → range_with_len 0 (n + 1) ≡ range_with_len 0 n ++ n ∷ []
-range_more n = sym (map-id (range_with_len 0 (n + 1))) ∙ map-range_with_len_more (λ (x : ℕ). x) 0 n n (omega arith) ∙ ap (λ (l : List ℕ). l ++ n ∷ []) (map-id (range_with_len 0 n))
+-- the numbers to n behind a list, and n
+pub numbers_more : (xs : List ℕ) (n : ℕ) → (xs ++ range_with_len 0 n) ++ n ∷ [] ≡ xs ++ range_with_len 0 (n + 1)
+numbers_more xs n =
+    let all = map-range_with_len_more (λ (x : ℕ). x) 0 n n (omega arith) in
+    append_assoc xs (range_with_len 0 n) (n ∷ [])
+    ∙ ap (λ (l : List ℕ). xs ++ l) (ap (λ (l : List ℕ). l ++ n ∷ []) (sym (map-id (range_with_len 0 n))) ∙ sym all ∙ map-id (range_with_len 0 (n + 1)))
 
 pub all_one : {X : Type 0} (P : X → Type 0) (x : X) → P x → All P (x ∷ [])
 all_one P x p zero d l = p
@@ -50,7 +54,7 @@ asks_more z w v r n inside le h = record {
   next = h.next;
   filled = h.filled;
   loads = let e = h.loads in omega arith;
-  asked = ap (λ (l : List ℕ). l ++ r ∷ []) h.asked ∙ append_assoc w.asked (range_with_len 0 r) (r ∷ []) ∙ ap (λ (l : List ℕ). w.asked ++ l) (sym (range_more r));
+  asked = ap (λ (l : List ℕ). l ++ r ∷ []) h.asked ∙ numbers_more w.asked r;
   each_known = length-set v.known r n ∙ h.each_known;
   rising = λ k l. let a = h.rising k l in let b = risen v.known r n inside le k in omega arith;
   others = λ k l. get_or-set_other v.known r k n 0 (λ e. absurd (omega arith)) ∙ h.others k (omega arith);

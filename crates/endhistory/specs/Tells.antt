@@ -9,7 +9,8 @@ use Rattle.endhistory.specs.declared.views.Role.{Role}
 use Rattle.endhistory.specs.declared.views.Role.TheVariants.{Unopened, Nobody, AsWriter, AsReader}
 use Rattle.endhistory.specs.declared.views.View.{View}
 use Rattle.endhistory.specs.Blocks.{Blocks, block}
-use Rattle.endhistory.specs.Steps.{checked_view, filled_view, published_view, looked_view, taken_view, passed_view}
+use Rattle.endhistory.specs.Steps.{checked_view, filled_view, published_view, looked_view}
+use Rattle.endhistory.specs.Steps.{taken_view, passed_view}
 use Rattle.endhistory.specs.Rule.{start_writing, start_reading}
 
 abbrev pub in_role : View → Role → View

@@ -5,7 +5,8 @@ ghost use Rattle.endhistory.specs.Blocks.{block, word_count, sizes_of, AreWide, 
 ghost use Rattle.endhistory.specs.Steps.{IsFree, published_view, looked_view, passed_view};
 ghost use Rattle.endhistory.specs.Rule.{start_writing, start_reading};
 ghost use Rattle.endhistory.specs.Answers.{Finds, IsReady, Says};
-ghost use Rattle.endhistory.specs.Seats.{IsAt, IsNewReader, IsNewWriter, IsWriter, IsReader, writing, reading, number_of, blocks_of, taken_to};
+ghost use Rattle.endhistory.specs.Seats.{IsAt, IsNewReader, IsNewWriter, IsWriter, IsReader};
+ghost use Rattle.endhistory.specs.Seats.{writing, reading, number_of, blocks_of, taken_to};
 
 use crate::answers::{Look, Vacancy};
 use crate::blocks::BlockTag;

@@ -2,7 +2,8 @@
 ghost use Rattle.std.specs.Prelude.{◌≡◌, ℕ, ◌+◌, ◌*◌, ◌%◌, ◌<◌, ◌≤◌, length, MatchBool};
 ghost use Rattle.endhistory.specs.Blocks.{block, IsSizes, word_count};
 ghost use Rattle.endhistory.specs.Steps.{IsFree};
-ghost use Rattle.endhistory.specs.Seats.{IsAt, IsWriter, IsReader, WritesWith, ReadsWith, HasAsked, writing, reading, blocks_of, filled_to, taken_to};
+ghost use Rattle.endhistory.specs.Seats.{IsAt, IsWriter, IsReader, WritesWith, ReadsWith, HasAsked};
+ghost use Rattle.endhistory.specs.Seats.{writing, reading, blocks_of, filled_to, taken_to};
 ghost use Rattle.endhistory.specs.Answers.{Finds};
 
 use crate::answers::Vacancy;

@@ -1,3 +1,4 @@
+pub mod CellLaws
 pub mod FirstBad
 pub mod Greatest
 pub mod Joined

@@ -7,7 +7,7 @@ use Rattle.std.proofs.lemmas.List.{get_or_default}
 use Rattle.case_model.specs.declared.points.Point.{Point}
 use Rattle.case_model.specs.declared.points.Point.TheVariants.{Bad}
 use Rattle.envelope.specs.Cells.{is_within, cell_of, span_of, first_of_span, IsRising, IsLaidOut, IsPlaced, AreInSpan, AreInOneSpan}
-use Rattle.envelope.specs.CellLaws.{within-span}
+use Rattle.envelope.proofs.CellLaws.{within-span}
 use Rattle.envelope.specs.Extremes.{first_of}
 use Rattle.envelope.specs.Changes.{AreSameCells}
 use Rattle.envelope.specs.Folds.{spans_of, steps_of}

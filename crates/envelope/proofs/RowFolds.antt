@@ -23,7 +23,7 @@ use Rattle.case_model.specs.Places.{is_bad, is_bad_state, bad_places}
 use Rattle.case_model.specs.Rows.{Row, row}
 use Rattle.case_model.specs.Samples.{Sample, taken_at, point_sample, node_sample, sample, IsEnvelope}
 use Rattle.envelope.specs.Cells.{is_within}
-use Rattle.envelope.specs.CellLaws.{within-first, below-first}
+use Rattle.envelope.proofs.CellLaws.{within-first, below-first}
 use Rattle.envelope.specs.Extremes.{HasExtreme, IsEnvelopeOf, extreme_over}
 use Rattle.envelope.specs.Faults.{HasFault}
 use Rattle.envelope.specs.Folds.{spans_of, probes_of, steps_of, every_of}

@@ -1,5 +1,6 @@
 -- The places of some spans, and the cell of each in a fold.
-use Rattle.std.specs.Prelude.{◌≡◌, ℕ, ◌+◌, ◌-◌, ◌<◌, ◌≤◌, ◌&&◌, nat_le, nat_lt, Bool, List, length, slice_index_or, slice_index}
+use Rattle.std.specs.Prelude.{◌≡◌, ℕ, ◌+◌, ◌-◌, ◌<◌, ◌≤◌, ◌&&◌, nat_le, nat_lt, Bool, List, length}
+use Rattle.std.specs.Prelude.{slice_index_or, slice_index}
 use Rattle.std.specs.List.{list_any, position_or_len}
 
 -- what stands for a span that isn't there

@@ -1,5 +1,6 @@
 -- What a fold tells, number by number, as its readers answer it.
-use Rattle.std.specs.Prelude.{ℕ, ◌/◌, ◌%◌, ◌==◌, ◌&&◌, nat_le, if◌then◌else◌, List, [], slice_index, slice_index_or, Option, Some, None}
+use Rattle.std.specs.Prelude.{ℕ, ◌/◌, ◌%◌, ◌==◌, ◌&&◌, nat_le, if◌then◌else◌, List, [], slice_index}
+use Rattle.std.specs.Prelude.{slice_index_or, Option, Some, None}
 use Rattle.case_model.specs.Samples.{Sample}
 use Rattle.envelope.specs.Extremes.{unmet}
 use Rattle.envelope.specs.Layout.{cell_in, line_in}

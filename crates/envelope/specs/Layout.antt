@@ -1,6 +1,7 @@
 -- Where a fold keeps the numbers of its places in memory, and that these are the definitions' over
 -- a map.
-use Rattle.std.specs.Prelude.{◌≡◌, ℕ, List, [], Option, Some, None, length, slice_index, slice_index_or, true}
+use Rattle.std.specs.Prelude.{◌≡◌, ℕ, List, [], Option, Some, None, length, slice_index}
+use Rattle.std.specs.Prelude.{slice_index_or, true}
 use Rattle.case_model.specs.Samples.{Sample}
 use Rattle.envelope.specs.Cells.{is_within, cell_of}
 use Rattle.envelope.specs.Extremes.{HasExtreme, unmet}

@@ -1,4 +1,3 @@
-pub mod CellLaws
 pub mod Cells
 pub mod Changes
 pub mod Extremes

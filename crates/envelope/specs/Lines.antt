@@ -1,11 +1,16 @@
 -- The samples that a fold keeps: for each probe a line of them, one for each step that is sampled.
-use Rattle.std.specs.Prelude.{◌≡◌, ◌≢◌, ℕ, ◌*◌, ◌<◌, ◌≤◌, List, [], length, slice_index, slice_index_or, replicate, Option, Some, None, true}
+use Rattle.std.specs.Prelude.{◌≡◌, ◌≢◌, ℕ, ◌*◌, ◌<◌, ◌≤◌, List, [], length, slice_index}
+use Rattle.std.specs.Prelude.{slice_index_or, replicate, Option, Some, None, true}
 use Rattle.case_model.specs.Samples.{Sample}
 use Rattle.envelope.specs.Cells.{cell_of, is_within}
 use Rattle.envelope.specs.declared.samples.Sample.{Sample as Kept}
 
+-- what a kept sample tells of a place
+abbrev pub sample_of : Kept → Sample
+sample_of s = record { h = s.h; qu = s.qu; qd = s.qd; v = s.v }
+
 abbrev pub told : Option Kept → Option Sample
-told (Some s) = Some (record { h = s.h; qu = s.qu; qd = s.qd; v = s.v })
+told (Some s) = Some (sample_of s)
 told None = None
 
 -- a line of samples has what is taken at the steps 0, every, 2*every .. up to the last

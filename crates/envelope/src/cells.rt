@@ -1,6 +1,7 @@
 //! The cell of each place that lies in the spans of a fold.
 ghost use Rattle.std.specs.Prelude.{◌≡◌, ℕ, ◌+◌, ◌<◌, ◌≤◌, true, length, slice_index, IfOk};
-ghost use Rattle.envelope.specs.Cells.{IsRising, IsLaidOut, is_within, span_of, IsPlaced, cell_of as cell_is};
+ghost use Rattle.envelope.specs.Cells.{IsRising, IsLaidOut, is_within, span_of, IsPlaced};
+ghost use Rattle.envelope.specs.Cells.{cell_of as cell_is};
 
 use std::alloc::{AllocError, Global};
 

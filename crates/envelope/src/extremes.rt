@@ -1,5 +1,6 @@
 //! The envelope of one place, and the cells that keep one each.
-ghost use Rattle.std.specs.Prelude.{◌≡◌, ◌≢◌, ℕ, ◌<◌, ◌≤◌, ◌≤ℤ◌, ◌<ℤ◌, true, false, Option, Some, None, length, replicate, slice_index_or, IfOk};
+ghost use Rattle.std.specs.Prelude.{◌≡◌, ◌≢◌, ℕ, ◌<◌, ◌≤◌, ◌≤ℤ◌, ◌<ℤ◌, true, false, Option, Some};
+ghost use Rattle.std.specs.Prelude.{None, length, replicate, slice_index_or, IfOk};
 ghost use Rattle.case_model.specs.Samples.{Sample as Taken};
 ghost use Rattle.envelope.specs.Extremes.{AgreeAlong, either, unmet, HasExtreme};
 

@@ -30,7 +30,8 @@ pub struct Fold {
     ghost sampled: { 1 ≤ every },
     ghost filled: { length cells.items ≡ slice_index bases.items (length spans.items) },
     ghost marks_fit: { length marks.items ≡ slice_index bases.items (length spans.items) },
-    ghost marked: { IsMarked spans.items bases.items probes.items (length probes.items) marks.items },
+    ghost marked: { IsMarked spans.items bases.items probes.items (length probes.items)
+        marks.items },
     ghost lined: { AreLines (length probes.items) (steps / every + 1) samples.items },
 }
 
@@ -41,12 +42,16 @@ impl Fold {
     ghost use Rattle.envelope.specs.Cells.{is_within, first_of_span, end_of_span, AreInOneSpan};
     ghost use Rattle.envelope.specs.Extremes.{IsEnvelopeOf};
     ghost use Rattle.envelope.specs.Faults.{HasFault};
-    ghost use Rattle.envelope.specs.Changes.{IsKeptAt, IsSameLayout, AreSameCells, AreJoined, IsMergeable};
-    ghost use Rattle.envelope.specs.Folds.{spans_of, probes_of, steps_of, every_of, Stands, IsFoldOf, IsSameFold};
+    ghost use Rattle.envelope.specs.Changes.{IsKeptAt, IsSameLayout, AreSameCells, AreJoined};
+    ghost use Rattle.envelope.specs.Changes.{IsMergeable};
+    ghost use Rattle.envelope.specs.Folds.{spans_of, probes_of, steps_of, every_of, Stands};
+    ghost use Rattle.envelope.specs.Folds.{IsFoldOf, IsSameFold};
     ghost use Rattle.envelope.specs.Kept.{extreme_kept, fault_kept, sample_kept};
     ghost use Rattle.envelope.specs.Layout.{IsHeld, cell_in, count_of_cells};
-    ghost use Rattle.envelope.specs.Lines.{told};
-    ghost use Rattle.envelope.specs.Notings.{Noting, Noted, nothing, only, noted, line_noted, union, Agree, IsInside, column, sample_over, taken, is_bad_noting};
+    ghost use Rattle.envelope.specs.Lines.{sample_of, told};
+    ghost use Rattle.envelope.specs.Notings.{Noting, Noted, nothing, only, noted, line_noted};
+    ghost use Rattle.envelope.specs.Notings.{union, Agree, IsInside, column, sample_over, taken};
+    ghost use Rattle.envelope.specs.Notings.{is_bad_noting};
     ghost use Rattle.envelope.specs.Notings.Noting.{OfPoint, OfNode};
 
     /// A fold of which nothing is noted. A span is a first place and a count; a probe is a place
@@ -286,8 +291,7 @@ impl Fold {
         requires step { step ≤ steps_of self.old }
         ensures kept { (place : ℕ) → is_within (spans_of self.old) place ≡ true →
             cell ≡ cell_in self.old place →
-            IsKeptAt self.old self.new step place
-            (record { h = sample.now.h; qu = sample.now.qu; qd = sample.now.qd; v = sample.now.v }) }
+            IsKeptAt self.old self.new step place (sample_of sample.now) }
         ensures layout { IsSameLayout self.old self.new }
     {
         join_cell(&mut self.cells, cell, &Extreme::of_one(step, sample));

@@ -1,5 +1,7 @@
 //! The samples of probes, a line of them for each.
-ghost use Rattle.std.specs.Prelude.{◌≡◌, ◌≢◌, ℕ, ◌+◌, ◌*◌, ◌/◌, ◌<◌, ◌≤◌, List as Items, [], length, replicate, slice_index, slice_index_or, slice_set, Option, Some, None, IfOk};
+ghost use Rattle.std.specs.Prelude.{◌≡◌, ◌≢◌, ℕ, ◌+◌, ◌*◌, ◌/◌, ◌<◌, ◌≤◌, List as Items, []};
+ghost use Rattle.std.specs.Prelude.{length, replicate, slice_index, slice_index_or, slice_set};
+ghost use Rattle.std.specs.Prelude.{Option, Some, None, IfOk};
 ghost use Rattle.case_model.specs.Samples.{Sample as Taken};
 ghost use Rattle.envelope.specs.Cells.{IsRising, IsLaidOut};
 ghost use Rattle.envelope.specs.Extremes.{AgreeAlong, either, first_of};
@@ -130,7 +132,8 @@ fn fill_gaps(line: &mut [Option<Sample>], other: &[Option<Sample>])
     requires { length other.now ≡ length line.old }
     ensures { (j : ℕ) → j < length line.old →
         told (slice_index_or line.new j None)
-        ≡ first_of (told (slice_index_or line.old j None)) (told (slice_index_or other.now j None)) }
+        ≡ first_of (told (slice_index_or line.old j None))
+        (told (slice_index_or other.now j None)) }
 {
     for (index, sample) in other.iter().enumerate() {
         if line[index].is_none() {

@@ -1,5 +1,6 @@
 //! The laws of folds, of their extremes and of place numbers. No function here does anything.
-ghost use Rattle.std.specs.Prelude.{◌≡◌, ◌≢◌, ℕ, ◌<◌, ◌≤◌, ℤ, List, [], ◌∷◌, length, Option, Some, None, true};
+ghost use Rattle.std.specs.Prelude.{◌≡◌, ◌≢◌, ℕ, ◌<◌, ◌≤◌, ℤ, List, [], ◌∷◌, length, Option, Some};
+ghost use Rattle.std.specs.Prelude.{None, true};
 ghost use Rattle.case_model.specs.declared.cases.Case.{Case};
 ghost use Rattle.case_model.specs.declared.cases.ProbeAt.{ProbeAt};
 ghost use Rattle.case_model.specs.declared.meshes.Mesh.{Mesh};

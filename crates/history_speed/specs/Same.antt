@@ -10,7 +10,10 @@ abbrev pub same_blocks : ℕ → ℕ → Blocks
 same_blocks count width = replicate count (replicate width 7)
 
 abbrev pub StandsToWrite : TableId → Sizes → ℕ → ℕ → Place → Type 0
-StandsToWrite id z count n s = IsAt id z s × (blocks_of s ≡ same_blocks count z.width) × ((writing s).next ≡ n)
+StandsToWrite id z count n s =
+    IsAt id z s × (blocks_of s ≡ same_blocks count z.width) × ((writing s).next ≡ n)
 
 abbrev pub StandsToRead : TableId → Sizes → ℕ → ℕ → Place → Type 0
-StandsToRead id z count n s = IsAt id z s × (blocks_of s ≡ same_blocks count z.width) × ((reading s).next ≡ n) × ((reading s).taken ≡ 0)
+StandsToRead id z count n s =
+    IsAt id z s × (blocks_of s ≡ same_blocks count z.width) × ((reading s).next ≡ n)
+    × ((reading s).taken ≡ 0)

@@ -2,7 +2,7 @@
 ghost use Rattle.std.specs.Prelude.{◌≡◌, ◌<◌, ◌≤◌, ◌^◌};
 
 use crate::same::Same;
-use crate::through::{by_copies, on_one_thread, on_two_threads};
+use crate::through::{Blocks, by_copies, on_one_thread, on_two_threads};
 use endhistory::{History, Reader, Writer};
 use std::io;
 use std::sync::Wait;
@@ -79,15 +79,11 @@ fn time_two_threads<R: Threads + Wait + Clock + AllocGlobal + Sync>(
         return Err(io::Error::from(io::ErrorKind::Other));
     };
     let start = Instant::now(rt)?;
-    on_two_threads(
-        rt,
-        &history,
-        &mut writer,
-        &mut reader,
-        &words,
-        &mut into,
+    let blocks = Blocks {
+        words: &words,
         count,
-    );
+    };
+    on_two_threads(rt, &history, &mut writer, &mut reader, &blocks, &mut into);
     start.elapsed(rt)
 }
 

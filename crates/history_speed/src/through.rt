@@ -7,11 +7,23 @@ use std::sync::Wait;
 use std::thread;
 use std::thread::Threads;
 
+/// What goes through a history: `count` blocks of the same words.
+#[derive(Drop)]
+pub(crate) struct Blocks<'a> {
+    pub(crate) words: &'a [u64],
+    pub(crate) count: u64,
+}
+
 // Whether the block was published.
 fn write_one(history: &History, writer: &mut Writer, words: &[u64], number: u64, count: u64) -> bool
-    requires stands { StandsToWrite history.now.table.shared.table_id history.now.sizes count number writer.old.seat }
+    requires stands { StandsToWrite history.now.table.shared.table_id history.now.sizes count number
+        writer.old.seat }
     requires words { (number < count) × (words.now ≡ replicate history.now.sizes.width 7) }
-    ensures { MatchBool result (StandsToWrite history.now.table.shared.table_id history.now.sizes count (number + 1) writer.new.seat) (StandsToWrite history.now.table.shared.table_id history.now.sizes count number writer.new.seat) }
+    ensures { MatchBool result
+        (StandsToWrite history.now.table.shared.table_id history.now.sizes count
+        (number + 1) writer.new.seat)
+        (StandsToWrite history.now.table.shared.table_id history.now.sizes count number
+        writer.new.seat) }
 {
     let _ = (number, count);
     match history.vacancy(writer) {
@@ -34,9 +46,14 @@ fn read_one(
     number: u64,
     count: u64,
 ) -> bool
-    requires stands { StandsToRead history.now.table.shared.table_id history.now.sizes count number reader.old.seat }
+    requires stands { StandsToRead history.now.table.shared.table_id history.now.sizes count number
+        reader.old.seat }
     requires wide { length into.old ≡ history.now.sizes.width }
-    ensures { MatchBool result (StandsToRead history.now.table.shared.table_id history.now.sizes count (number + 1) reader.new.seat) (StandsToRead history.now.table.shared.table_id history.now.sizes count number reader.new.seat) }
+    ensures { MatchBool result
+        (StandsToRead history.now.table.shared.table_id history.now.sizes count
+        (number + 1) reader.new.seat)
+        (StandsToRead history.now.table.shared.table_id history.now.sizes count number
+        reader.new.seat) }
 {
     let _ = (number, count);
     match history.look(reader) {
@@ -57,9 +74,11 @@ fn write_next(
     number: u64,
     count: u64,
 )
-    requires stands { StandsToWrite history.now.table.shared.table_id history.now.sizes count number writer.old.seat }
+    requires stands { StandsToWrite history.now.table.shared.table_id history.now.sizes count number
+        writer.old.seat }
     requires words { (number < count) × (words.now ≡ replicate history.now.sizes.width 7) }
-    ensures { StandsToWrite history.now.table.shared.table_id history.now.sizes count (number + 1) writer.new.seat }
+    ensures { StandsToWrite history.now.table.shared.table_id history.now.sizes count
+        (number + 1) writer.new.seat }
 {
     for _ in rt.forever() {
         if write_one(history, writer, words, number, count) {
@@ -78,9 +97,11 @@ fn read_next(
     number: u64,
     count: u64,
 )
-    requires stands { StandsToRead history.now.table.shared.table_id history.now.sizes count number reader.old.seat }
+    requires stands { StandsToRead history.now.table.shared.table_id history.now.sizes count number
+        reader.old.seat }
     requires wide { length into.old ≡ history.now.sizes.width }
-    ensures { StandsToRead history.now.table.shared.table_id history.now.sizes count (number + 1) reader.new.seat }
+    ensures { StandsToRead history.now.table.shared.table_id history.now.sizes count
+        (number + 1) reader.new.seat }
 {
     for _ in rt.forever() {
         if read_one(history, reader, into, number, count) {
@@ -92,9 +113,11 @@ fn read_next(
 }
 
 fn write_all(rt: &impl Wait, history: &History, writer: &mut Writer, words: &[u64], count: u64)
-    requires stands { StandsToWrite history.now.table.shared.table_id history.now.sizes count 0 writer.old.seat }
+    requires stands { StandsToWrite history.now.table.shared.table_id history.now.sizes count 0
+        writer.old.seat }
     requires words { words.now ≡ replicate history.now.sizes.width 7 }
-    ensures { StandsToWrite history.now.table.shared.table_id history.now.sizes count count writer.new.seat }
+    ensures { StandsToWrite history.now.table.shared.table_id history.now.sizes count count
+        writer.new.seat }
 {
     for number in 0..count {
         write_next(rt, history, writer, words, number, count);
@@ -102,9 +125,11 @@ fn write_all(rt: &impl Wait, history: &History, writer: &mut Writer, words: &[u6
 }
 
 fn read_all(rt: &impl Wait, history: &History, reader: &mut Reader, into: &mut [u64], count: u64)
-    requires stands { StandsToRead history.now.table.shared.table_id history.now.sizes count 0 reader.old.seat }
+    requires stands { StandsToRead history.now.table.shared.table_id history.now.sizes count 0
+        reader.old.seat }
     requires wide { length into.old ≡ history.now.sizes.width }
-    ensures { StandsToRead history.now.table.shared.table_id history.now.sizes count count reader.new.seat }
+    ensures { StandsToRead history.now.table.shared.table_id history.now.sizes count count
+        reader.new.seat }
 {
     for number in 0..count {
         read_next(rt, history, reader, into, number, count);
@@ -120,11 +145,17 @@ pub(crate) fn on_one_thread(
     into: &mut [u64],
     count: u64,
 ) -> bool
-    requires writer { StandsToWrite history.now.table.shared.table_id history.now.sizes count 0 writer.old.seat }
-    requires reader { StandsToRead history.now.table.shared.table_id history.now.sizes count 0 reader.old.seat }
+    requires writer { StandsToWrite history.now.table.shared.table_id history.now.sizes count 0
+        writer.old.seat }
+    requires reader { StandsToRead history.now.table.shared.table_id history.now.sizes count 0
+        reader.old.seat }
     requires words { words.now ≡ replicate history.now.sizes.width 7 }
     requires wide { length into.old ≡ history.now.sizes.width }
-    ensures { result ≡ true → (StandsToWrite history.now.table.shared.table_id history.now.sizes count count writer.new.seat) × (StandsToRead history.now.table.shared.table_id history.now.sizes count count reader.new.seat) }
+    ensures { result ≡ true →
+        (StandsToWrite history.now.table.shared.table_id history.now.sizes count count
+        writer.new.seat)
+        × (StandsToRead history.now.table.shared.table_id history.now.sizes count count
+        reader.new.seat) }
 {
     for number in 0..count {
         if !write_one(history, writer, words, number, count) {
@@ -143,23 +174,28 @@ pub(crate) fn on_two_threads<R: Threads + Wait + Sync>(
     history: &History,
     writer: &mut Writer,
     reader: &mut Reader,
-    words: &[u64],
+    blocks: &Blocks,
     into: &mut [u64],
-    count: u64,
 )
-    requires writer { StandsToWrite history.now.table.shared.table_id history.now.sizes count 0 writer.old.seat }
-    requires reader { StandsToRead history.now.table.shared.table_id history.now.sizes count 0 reader.old.seat }
-    requires words { words.now ≡ replicate history.now.sizes.width 7 }
+    requires writer { StandsToWrite history.now.table.shared.table_id history.now.sizes
+        blocks.now.count 0 writer.old.seat }
+    requires reader { StandsToRead history.now.table.shared.table_id history.now.sizes
+        blocks.now.count 0 reader.old.seat }
+    requires words { blocks.now.words.now ≡ replicate history.now.sizes.width 7 }
     requires wide { length into.old ≡ history.now.sizes.width }
 {
+    let words = blocks.words;
+    let count = blocks.count;
     thread::join(
         rt,
         ||
-            requires stands { StandsToWrite history.now.table.shared.table_id history.now.sizes count 0 writer.now.seat }
+            requires stands { StandsToWrite history.now.table.shared.table_id history.now.sizes
+                count 0 writer.now.seat }
             requires words { words.now ≡ replicate history.now.sizes.width 7 }
         { write_all(rt, history, writer, words, count) },
         ||
-            requires stands { StandsToRead history.now.table.shared.table_id history.now.sizes count 0 reader.now.seat }
+            requires stands { StandsToRead history.now.table.shared.table_id history.now.sizes count
+                0 reader.now.seat }
             requires wide { length into.now ≡ history.now.sizes.width }
         { read_all(rt, history, reader, into, count) },
     );

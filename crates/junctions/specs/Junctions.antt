@@ -2,7 +2,8 @@
 -- Where that head would fall below the vapour head it is held there, and a cavity grows by the
 -- demand less the inflows. After Wylie and Streeter, Fluid Transients in Systems: boundary
 -- conditions, column separation.
-use Rattle.std.specs.Prelude.{ℤ, pos, ◌-ℤ◌, ◌*ℤ◌, int_le, int_lt, unsigned_abs, ◌==◌, ◌&&◌, if◌then◌else◌, List}
+use Rattle.std.specs.Prelude.{ℤ, pos, ◌-ℤ◌, ◌*ℤ◌, int_le, int_lt, unsigned_abs, ◌==◌, ◌&&◌}
+use Rattle.std.specs.Prelude.{if◌then◌else◌, List}
 use Rattle.std.specs.Int.{int_max}
 use Rattle.fixed_num.specs.Rounding.{rnd}
 use Rattle.case_model.specs.declared.meshes.Arrival.{Arrival}
@@ -24,10 +25,12 @@ reservoir_state head arrivals = liquid head arrivals
 unfoldable pub reservoir_flows : ℤ → List Arrival → List ℤ
 reservoir_flows head arrivals = flows_of (reservoir_state head arrivals) arrivals
 
--- the head in 1e-6 m at which the inflows of a junction give its demand in 1e-9 m3/s, but for rounding
+-- the head in 1e-6 m at which the inflows of a junction give its demand in 1e-9 m3/s, but for
+-- rounding
 unfoldable pub junction_head : ℤ → List Arrival → ℤ
 junction_head demand arrivals =
-    rnd (sum_of weighted_head arrivals -ℤ (demand *ℤ pos 10_000_000_000_000)) (sum_of weight arrivals)
+    rnd (sum_of weighted_head arrivals -ℤ (demand *ℤ pos 10_000_000_000_000))
+    (sum_of weight arrivals)
 
 -- the growth of a cavity at a junction
 abbrev pub junction_growth : ℤ → ℤ → List Arrival → ℤ
@@ -37,7 +40,8 @@ junction_growth hv demand arrivals = demand -ℤ inflow hv arrivals
 -- closed, at the head of the liquid but not below the vapour head
 abbrev pub kept_or_closed : ℤ → ℤ → ℤ → ℤ → List Arrival → NodeState
 kept_or_closed hv head growth volume arrivals =
-    if int_lt (pos 0) volume then state_at hv volume growth arrivals else liquid (int_max head hv) arrivals
+    if int_lt (pos 0) volume then state_at hv volume growth arrivals
+    else liquid (int_max head hv) arrivals
 
 -- a junction of this head without a cavity, with the volume and the growth of the step before
 abbrev pub junction_after : CavityRule → ℤ → ℤ → ℤ → ℤ → List Arrival → NodeState
@@ -49,8 +53,10 @@ junction_after rule demand head volume growth arrivals =
 
 -- the state of a junction from its old one: Bad where that is
 unfoldable pub junction_state : CavityRule → ℤ → NodeState → List Arrival → NodeState
-junction_state rule demand (Good h v g) arrivals = junction_after rule demand (junction_head demand arrivals) v g arrivals
+junction_state rule demand (Good h v g) arrivals =
+    junction_after rule demand (junction_head demand arrivals) v g arrivals
 junction_state rule demand Bad arrivals = Bad
 
 unfoldable pub junction_flows : CavityRule → ℤ → NodeState → List Arrival → List ℤ
-junction_flows rule demand own arrivals = flows_of (junction_state rule demand own arrivals) arrivals
+junction_flows rule demand own arrivals =
+    flows_of (junction_state rule demand own arrivals) arrivals

@@ -1,5 +1,6 @@
 -- A node with one head: its state, and the flow into it along each of its ends.
-use Rattle.std.specs.Prelude.{ℤ, pos, nat_le, Bool, unsigned_abs, if◌then◌else◌, List, length, map, replicate}
+use Rattle.std.specs.Prelude.{ℤ, pos, nat_le, Bool, unsigned_abs, if◌then◌else◌, List, length, map}
+use Rattle.std.specs.Prelude.{replicate}
 use Rattle.std.specs.List.{list_all}
 use Rattle.case_model.specs.declared.meshes.Arrival.{Arrival}
 use Rattle.case_model.specs.declared.states.NodeState.{NodeState}
@@ -16,7 +17,8 @@ is_flow q = nat_le (unsigned_abs q) 1_000_000_000_000
 abbrev pub inflows : ℤ → List Arrival → List ℤ
 inflows h arrivals = map (flow_in h) arrivals
 
--- a node at a head, with a volume and a growth: Bad where one of these or the flow of an end is out of range
+-- a node at a head, with a volume and a growth: Bad where one of these or the flow of an end is out
+-- of range
 unfoldable pub state_at : ℤ → ℤ → ℤ → List Arrival → NodeState
 state_at h v g arrivals = if list_all is_flow (inflows h arrivals) then state_of h v g else Bad
 
@@ -24,7 +26,8 @@ state_at h v g arrivals = if list_all is_flow (inflows h arrivals) then state_of
 abbrev pub filled : ℤ → ℤ → List Arrival → NodeState
 filled h v arrivals = state_at h v (inflow h arrivals) arrivals
 
--- the flow into the node along each arrival, by the node's new state: that at its head, or 0 where it is Bad
+-- the flow into the node along each arrival, by the node's new state: that at its head, or 0 where
+-- it is Bad
 unfoldable pub flows_of : NodeState → List Arrival → List ℤ
 flows_of (Good h v g) arrivals = inflows h arrivals
 flows_of Bad arrivals = replicate (length arrivals) (pos 0)

@@ -1,5 +1,5 @@
--- Sums over what arrives at a node. After Wylie and Streeter, Fluid Transients in Systems: junctions
--- of pipes, where each characteristic counts by the inverse of its impedance.
+-- Sums over what arrives at a node. After Wylie and Streeter, Fluid Transients in Systems:
+-- junctions of pipes, where each characteristic counts by the inverse of its impedance.
 use Rattle.std.specs.Prelude.{ℕ, ℤ, pos, ◌+ℤ◌, ◌*ℤ◌, List, [], ◌∷◌}
 use Rattle.fixed_num.specs.Rounding.{rnd}
 use Rattle.case_model.specs.declared.meshes.Arrival.{Arrival}

@@ -1,5 +1,6 @@
 //! The laws of reservoirs and junctions.
-ghost use Rattle.std.specs.Prelude.{◌≡◌, ◌<◌, ◌≤◌, ◌*◌, ◌==◌, ◌&&◌, ◌≤ℤ◌, int_le, pos, unsigned_abs, length, All};
+ghost use Rattle.std.specs.Prelude.{◌≡◌, ◌<◌, ◌≤◌, ◌*◌, ◌==◌, ◌&&◌, ◌≤ℤ◌, int_le, pos};
+ghost use Rattle.std.specs.Prelude.{unsigned_abs, length, All};
 ghost use Rattle.fixed_num.specs.Rounding.{rnd as rounded};
 ghost use Rattle.std.specs.Int.{int_max};
 ghost use Rattle.case_model.specs.Limits.{IsHead, IsFlow};
@@ -84,7 +85,8 @@ fn junction_after(
     requires few { length arrivals.now ≤ most_arrivals }
     requires each { length flows.old ≡ length arrivals.now }
     requires arrivals_in { All IsArrival arrivals.now }
-    ensures state { result ≡ after_of rule.now demand (head_of demand arrivals.now) volume growth arrivals.now }
+    ensures state { result
+        ≡ after_of rule.now demand (head_of demand arrivals.now) volume growth arrivals.now }
     ensures flows { flows.new ≡ flows_of result arrivals.now }
 {
     let head = junction_head(demand, arrivals);

@@ -3,7 +3,8 @@ ghost use Rattle.std.specs.Prelude.{◌≡◌, ◌≤◌, pos, unsigned_abs, len
 ghost use Rattle.std.specs.List.{list_all};
 ghost use Rattle.case_model.specs.declared.states.NodeState.TheVariants.{Bad as BadState};
 ghost use Rattle.charline.specs.Characteristics.{IsArrival};
-ghost use Rattle.junctions.specs.Levels.{is_flow, inflows, state_at as state_of_node, filled as filled_at, flows_of};
+ghost use Rattle.junctions.specs.Levels.{is_flow, inflows, state_at as state_of_node};
+ghost use Rattle.junctions.specs.Levels.{filled as filled_at, flows_of};
 ghost use Rattle.junctions.specs.Sums.{most_arrivals};
 
 use crate::sums::write_inflows;

@@ -30,7 +30,9 @@ fn line_flow(head: i64, width: i64, fall: i64, from: i64, b: i64) -> i128
     requires fall_in { IsWithin (pos 0) (pos 400_000_000_000) fall }
     requires from_in { IsWithin (pos 0) (pos 2_000_000_000_000) from }
     requires b_in { IsWithin (pos 200_000) (pos 20_000_000_000_000) b }
-    ensures { result ≡ rounded (((head *ℤ width) +ℤ (fall *ℤ from)) *ℤ pos 1_000_000_000) ((fall *ℤ pos 1_000_000_000) +ℤ (b *ℤ width)) }
+    ensures { result
+        ≡ rounded (((head *ℤ width) +ℤ (fall *ℤ from)) *ℤ pos 1_000_000_000)
+        ((fall *ℤ pos 1_000_000_000) +ℤ (b *ℤ width)) }
 {
     rnd(
         driving(product(head, width), product(fall, from)),

@@ -17,7 +17,8 @@ ghost use Rattle.std.specs.Int.{int_max};
 ghost use Rattle.case_model.specs.Limits.{IsWithin, IsEntry, IsInOrder};
 ghost use Rattle.case_model.specs.declared.cases.TableKind.TheVariants.{Curve};
 ghost use Rattle.charline.specs.Characteristics.{IsArrival};
-ghost use Rattle.pumps.specs.Pumps.{free_flow as free_of, crossing_at as crossing_on, crossing as crossing_of, point_at as point_of, pump_through};
+ghost use Rattle.pumps.specs.Pumps.{free_flow as free_of, crossing_at as crossing_on};
+ghost use Rattle.pumps.specs.Pumps.{crossing as crossing_of, point_at as point_of, pump_through};
 
 use crate::crossings::crossing;
 use crate::curves::{point_at, segment};

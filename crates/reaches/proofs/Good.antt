@@ -1,10 +1,9 @@
 -- The mesh of a case without refusal is one in which rows can be computed, and its places are numbered.
-use Rattle.std.proofs.Common.{◌≡◌, ◌<◌, ◌≤◌, ℕ, suc, zero, ◌+◌, ◌==◌, nat_lt, Bool, true, false, List, [], ◌∷◌, length, map, take, get_or, Option, Some, None, refl, ap, subst, sym, ◌∙◌, add-one, arith, eq-eqb}
+use Rattle.std.proofs.Common.{◌≡◌, ◌<◌, ◌≤◌, ℕ, suc, zero, ◌+◌, ◌==◌, Bool, true, false, List, [], ◌∷◌, length, map, take, get_or, Option, Some, None, refl, ap, subst, sym, ◌∙◌, add-one, arith, eq-eqb}
 use Rattle.std.proofs.lemmas.List.{ext_get_or}
 use Rattle.std.proofs.lemmas.List.FromFn.{get_or-map-range_with_len, length-map-range_with_len, take-map-range_with_len, sum_by-map-range_with_len_more}
-use Rattle.std.proofs.lemmas.List.Sums.{fails_before_first, sum_by_more}
+use Rattle.std.proofs.lemmas.List.Sums.{sum_by_more}
 use Rattle.std.proofs.lemmas.List.Elements.{All-get_or}
-use Rattle.std.proofs.lemmas.Bool.Decides.{nat_tests}
 use Rattle.std.specs.List.{list_any, AllByRecursion, cons_option, position_or_len, range_with_len, sum_by}
 use Rattle.case_model.specs.declared.cases.Case.{Case}
 use Rattle.case_model.specs.declared.cases.Pipe.{Pipe}
@@ -19,7 +18,7 @@ use Rattle.case_model.specs.Parts.{pipe_at, no_pipe}
 use Rattle.case_model.specs.Ends.{end_if, ends_at}
 use Rattle.case_model.specs.Division.{divides, place_base, reaches_at, node_ends, AreEnds, pipe_mesh, mesh_of}
 use Rattle.case_model.specs.Refusals.{part_rules}
-use Rattle.reaches.proofs.Divided.{divided}
+use Rattle.reaches.proofs.Divided.{counted as has_count}
 use Rattle.std.proofs.lemmas.Bool.{or_right}
 use Rattle.case_model.proofs.Keeping.{all_divided}
 use Rattle.case_model.proofs.ListFacts.{passes}
@@ -96,7 +95,7 @@ found case read p h false = found_at case p (pipe_at case p).first false ((joine
 
 counted : (case : Case) (p : ℕ) → divides case p ≡ true → (2 ≤ reaches_at case p) × (reaches_at case p ≤ 65_536)
 unfolding divides
-counted case p d = let a = divided case.dt case.tolerance (pipe_at case p) d in (a.some, a.few)
+counted case p d = let a = has_count case.dt case.tolerance (pipe_at case p) d in (a.some, a.few)
 
 pub mesh_good : (case : Case) → IsRead case → IsEmpty (part_rules case) → IsMesh (mesh_of case)
 mesh_good case read empty =

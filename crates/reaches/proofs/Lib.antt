@@ -1,3 +1,4 @@
+pub mod Deciding
 pub mod Divided
 pub mod Joined
 pub mod Least

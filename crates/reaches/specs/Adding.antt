@@ -10,4 +10,5 @@ with_end ends k end = slice_set ends k (slice_index_or ends k [] ++ end ∷ [])
 -- the ends at each node, with those of one more pipe
 unfoldable pub with_pipe : List (List End) → ℕ → Pipe → List (List End)
 with_pipe ends index p =
-    with_end (with_end ends p.first (record { pipe = index; at_last = false })) p.last (record { pipe = index; at_last = true })
+    with_end (with_end ends p.first (record { pipe = index; at_last = false })) p.last
+    (record { pipe = index; at_last = true })

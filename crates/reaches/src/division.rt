@@ -3,21 +3,24 @@ ghost use Rattle.std.specs.Prelude.{◌≡◌, ◌*◌, ◌+◌, ◌/◌, ◌≤
 ghost use Rattle.case_model.specs.Mesh.{IsMesh, IsNumbered};
 ghost use Rattle.case_model.specs.Limits.{IsRead};
 ghost use Rattle.case_model.specs.Sets.{AreEmpty, IsFirst};
-ghost use Rattle.reaches.specs.Told.{Tells};
+ghost use Rattle.case_model.specs.Bounds.{LeastOrNone};
 ghost use Rattle.case_model.specs.Division.{AreEnds, mesh_of, place_base};
-ghost use Rattle.case_model.specs.Refusals.{part_rules, is_too_large as is_too_large_of, sample_count as sample_count_of, passes};
+ghost use Rattle.case_model.specs.Refusals.{part_rules, passes, is_too_large as is_too_large_of};
+ghost use Rattle.case_model.specs.Refusals.{sample_count as sample_count_of};
+ghost use Rattle.reaches.specs.Decided.{AreDecided};
 
 use crate::ends::all_ends;
 use crate::meshing::pipe_meshes;
 use crate::nodes::nodes_refusal;
-use crate::pipes::pipes_refusal;
+use crate::pipes::{Decided, decide_pipes, pipes_refusal};
 use crate::probes::probes_refusal;
 use crate::refusal::{Refusal, lesser};
 use case_model::{Case, CaseFault, End, List, Mesh};
 use std::alloc::Global;
 
 /// The mesh of a case: its pipes in reaches of one time step, with wave speeds adjusted within the
-/// tolerance. `Refused` is the first refusal of the division. Takes memory for the mesh alone.
+/// tolerance. `Refused` is the first refusal of the division. Takes memory for the mesh, and for what
+/// it decides of each pipe.
 /// Wylie and Streeter, Fluid Transients in Systems, complex systems in the method of characteristics.
 pub fn divide(alloc: Global, case: &Case) -> Result<Mesh, CaseFault>
     requires { IsRead case.now }
@@ -26,16 +29,22 @@ pub fn divide(alloc: Global, case: &Case) -> Result<Mesh, CaseFault>
     ensures pipes { IfOk result (λ mesh. length mesh.pipes ≡ length case.now.pipes) }
     ensures good { IfOk result (λ mesh. IsMesh mesh) }
     ensures numbered { IfOk result (λ mesh. IsNumbered mesh) }
-    ensures refused { (number line : ℕ) → result ≡ Err (CaseFault.Refused number line) → IsFirst (passes case.now) line number }
+    ensures refused { (number line : ℕ) → result ≡ Err (CaseFault.Refused number line) →
+        IsFirst (passes case.now) line number }
 {
     let ends = all_ends(alloc, case)?;
-    if let Some(refusal) = parts_refusal(case, &ends) {
+    let decisions = decide_pipes(alloc, case)?;
+    let decided = Decided {
+        case,
+        pipes: &decisions,
+    };
+    if let Some(refusal) = parts_refusal(&decided, &ends) {
         return Err(CaseFault::Refused {
             number: refusal.number,
             line: refusal.line,
         });
     }
-    let (pipes, places) = pipe_meshes(alloc, case)?;
+    let (pipes, places) = pipe_meshes(alloc, &decided)?;
     if is_too_large(case, places) {
         return Err(CaseFault::Refused {
             number: 10,
@@ -51,13 +60,14 @@ pub fn divide(alloc: Global, case: &Case) -> Result<Mesh, CaseFault>
 
 // The least refusal of single pipes, nodes and probes, if any.
 #[tactic(auto, unfolding(case_model::specs::Refusals::part_rules))]
-fn parts_refusal(case: &Case, ends: &[List<End>]) -> Option<Refusal>
-    requires read { IsRead case.now }
-    requires ends { AreEnds case.now ends.now }
-    ensures { Tells (part_rules case.now) result }
+fn parts_refusal(decided: &Decided, ends: &[List<End>]) -> Option<Refusal>
+    requires read { IsRead decided.now.case.now }
+    requires decided { AreDecided decided.now.case.now decided.now.pipes.now }
+    requires ends { AreEnds decided.now.case.now ends.now }
+    ensures { LeastOrNone (part_rules decided.now.case.now) result }
 {
-    let of_pipes_and_nodes = lesser(pipes_refusal(case), nodes_refusal(case, ends));
-    lesser(of_pipes_and_nodes, probes_refusal(case))
+    let of_pipes_and_nodes = lesser(pipes_refusal(decided), nodes_refusal(decided, ends));
+    lesser(of_pipes_and_nodes, probes_refusal(decided))
 }
 
 // Whether a case has too many places or samples.

@@ -1,5 +1,6 @@
 //! Elevations of nodes and of places of pipes.
-ghost use Rattle.std.specs.Prelude.{◌≡◌, ◌+◌, ◌<◌, ◌≤◌, ◌≤ℤ◌, ◌-ℤ◌, ◌*ℤ◌, ℤ, pos, unsigned_abs, length};
+ghost use Rattle.std.specs.Prelude.{◌≡◌, ◌+◌, ◌<◌, ◌≤◌, ◌≤ℤ◌, ◌-ℤ◌, ◌*ℤ◌, ℤ, pos, unsigned_abs};
+ghost use Rattle.std.specs.Prelude.{length};
 ghost use Rattle.fixed_num.specs.Rounding.{rnd as rounded};
 ghost use Rattle.case_model.specs.Mesh.{reaches as reaches_of};
 ghost use Rattle.case_model.specs.Limits.{IsRead};

@@ -1,5 +1,6 @@
 //! The pipe ends at each node.
-ghost use Rattle.std.specs.Prelude.{◌≡◌, ◌++◌, ◌∷◌, [], ◌<◌, ◌≤◌, false, true, IfOk, length, replicate};
+ghost use Rattle.std.specs.Prelude.{◌≡◌, [], ◌<◌, ◌≤◌, false, true, IfOk, length};
+ghost use Rattle.std.specs.Prelude.{replicate};
 ghost use Rattle.case_model.specs.Limits.{IsRead};
 ghost use Rattle.case_model.specs.Division.{AreEnds};
 ghost use Rattle.reaches.specs.Adding.{with_end, with_pipe};

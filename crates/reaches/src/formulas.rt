@@ -1,7 +1,9 @@
 //! The coefficients of a pipe in reaches.
-ghost use Rattle.std.specs.Prelude.{◌≡◌, ◌+◌, ◌*◌, ◌<◌, ◌≤◌, ◌≤ℤ◌, ℤ, pos};
+ghost use Rattle.std.specs.Prelude.{◌≡◌, ◌*◌, ◌≤◌, pos};
 ghost use Rattle.case_model.specs.Limits.{IsPipe, IsWithin};
-ghost use Rattle.case_model.specs.Formulas.{area as area_of, nearest_reaches as nearest_of, impedance as impedance_of, resistance as resistance_of, cut, reach_count as count_of, b_of, r_of};
+ghost use Rattle.case_model.specs.Formulas.{area as area_of};
+ghost use Rattle.case_model.specs.Formulas.{impedance as impedance_of, resistance as resistance_of};
+ghost use Rattle.case_model.specs.Formulas.{cut, b_of, r_of};
 
 use crate::quotients::{product, quotient, size};
 use case_model::Pipe;
@@ -62,7 +64,8 @@ fn resistance(friction: u64, length: u64, reaches: u64, diameter: u64, area: u64
     requires few_diameter { diameter ≤ 10_000 }
     requires some_area { 1 ≤ area }
     requires few_area { area ≤ 100_000_000 }
-    ensures { pos result ≡ resistance_of (pos friction) (pos length) (pos reaches) (pos diameter) (pos area) }
+    ensures { pos result
+        ≡ resistance_of (pos friction) (pos length) (pos reaches) (pos diameter) (pos area) }
 {
     let bore = product(1_961_330 * reaches * diameter, area * area);
     let drag = friction * length;

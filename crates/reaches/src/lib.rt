@@ -13,6 +13,7 @@ mod quotients;
 mod refusal;
 mod tested;
 mod valves;
+mod vessels;
 
 pub use division::divide;
 pub use elevations::{elevation, elevation_between, node_elevation};

@@ -1,53 +1,61 @@
 //! The rules of division that a node breaks by itself.
-ghost use Rattle.std.specs.Prelude.{◌≡◌, ◌≤◌, ◌<◌, length};
-ghost use Rattle.case_model.specs.Limits.{IsNode, IsRead};
+ghost use Rattle.std.specs.Prelude.{◌≡◌, ◌<◌, length};
+ghost use Rattle.case_model.specs.Limits.{IsKind, IsNode, IsRead};
 ghost use Rattle.case_model.specs.Division.{node_ends, AreEnds};
 ghost use Rattle.case_model.specs.Sets.{FindsLeast, any_below};
-ghost use Rattle.reaches.specs.Told.{Tells};
-ghost use Rattle.case_model.specs.Refusals.{breaks_node, node_rules, ends_suit, is_joined as is_joined_of, most_ends as most_ends_of, is_through as is_through_of};
+ghost use Rattle.case_model.specs.Bounds.{LeastOrNone};
+ghost use Rattle.case_model.specs.Refusals.{breaks_node, node_rules, ends_suit};
+ghost use Rattle.case_model.specs.Refusals.{exceeds as exceeds_of, is_joined as is_joined_of};
+ghost use Rattle.case_model.specs.Refusals.{most_ends as most_ends_of, is_through as is_through_of};
+ghost use Rattle.reaches.specs.Decided.{AreDecided};
 
+use crate::pipes::Decided;
 use crate::refusal::{Refusal, lesser, on};
-use crate::valves::exceeds;
-use case_model::{Case, End, List, Node, NodeKind};
+use crate::valves::valve_over;
+use crate::vessels::is_outside_gas;
+use case_model::{End, List, Node, NodeKind};
 
 /// The least refusal of single nodes, if any, with the ends at each node.
-pub(crate) fn nodes_refusal(case: &Case, ends: &[List<End>]) -> Option<Refusal>
-    requires read { IsRead case.now }
-    requires ends { AreEnds case.now ends.now }
-    ensures { Tells (any_below (node_rules case.now) (length case.now.nodes)) result }
+pub(crate) fn nodes_refusal(decided: &Decided, ends: &[List<End>]) -> Option<Refusal>
+    requires read { IsRead decided.now.case.now }
+    requires decided { AreDecided decided.now.case.now decided.now.pipes.now }
+    requires ends { AreEnds decided.now.case.now ends.now }
+    ensures { LeastOrNone
+        (any_below (node_rules decided.now.case.now) (length decided.now.case.now.nodes)) result }
 {
     let mut least = None;
-    for node in 0..case.nodes.as_slice().len() {
+    for node in 0..decided.case.nodes.as_slice().len() {
         least = lesser(
             least,
-            node_refusal(case, node as u32, ends[node].as_slice()),
+            node_refusal(decided, node as u32, ends[node].as_slice()),
         );
     }
     least
 }
 
 // The refusal of one node, if any.
-fn node_refusal(case: &Case, node: u32, ends: &[End]) -> Option<Refusal>
-    requires read { IsRead case.now }
-    requires there { node < length case.now.nodes }
-    requires ends { ends.now ≡ node_ends case.now node }
-    ensures { Tells (node_rules case.now node) result }
+fn node_refusal(decided: &Decided, node: u32, ends: &[End]) -> Option<Refusal>
+    requires read { IsRead decided.now.case.now }
+    requires decided { AreDecided decided.now.case.now decided.now.pipes.now }
+    requires there { node < length decided.now.case.now.nodes }
+    requires ends { ends.now ≡ node_ends decided.now.case.now node }
+    ensures { LeastOrNone (node_rules decided.now.case.now node) result }
 {
-    let node = &case.nodes.as_slice()[node as usize];
-    on(node.line, judge(case, node, ends))
+    let node = &decided.case.nodes.as_slice()[node as usize];
+    on(node.line, judge(decided, node, ends))
 }
 
 // The least rule that a node with these ends breaks, if any.
 #[tactic(auto, unfolding(case_model::specs::Refusals::breaks_node))]
-fn judge(case: &Case, node: &Node, ends: &[End]) -> Option<u8>
-    requires read { IsRead case.now }
-    requires node { IsNode case.now.tables node.now }
-    ensures { FindsLeast (breaks_node case.now node.now ends.now) result }
+fn judge(decided: &Decided, node: &Node, ends: &[End]) -> Option<u8>
+    requires decided { AreDecided decided.now.case.now decided.now.pipes.now }
+    requires node { IsNode decided.now.case.now.tables node.now }
+    ensures { FindsLeast (breaks_node decided.now.case.now node.now ends.now) result }
 {
-    if !suits(most_ends(case.version), &node.kind, ends) {
+    if !suits(most_ends(decided.case.version), &node.kind, ends) {
         return Some(11);
     }
-    if exceeds(case, &node.kind, ends) {
+    if exceeds(decided, &node.kind, ends) {
         return Some(15);
     }
     None
@@ -83,8 +91,8 @@ fn is_joined(most: usize, ends: &[End]) -> bool
     1 <= ends.len() && ends.len() <= most
 }
 
-/// Whether there are just a last end and a first end.
-pub(crate) fn is_through(ends: &[End]) -> bool
+// Whether there are just a last end and a first end.
+fn is_through(ends: &[End]) -> bool
     ensures { result ≡ is_through_of ends.now }
 {
     match ends {
@@ -96,5 +104,28 @@ pub(crate) fn is_through(ends: &[End]) -> bool
             other.at_last
         },
         [_, _, _, ..] => false,
+    }
+}
+
+// Whether a number of a node is out of its limits: that of a valve whose ends suit, or the volume
+// of a vessel.
+#[tactic(auto, unfolding(case_model::specs::Refusals::exceeds))]
+fn exceeds(decided: &Decided, kind: &NodeKind, ends: &[End]) -> bool
+    requires decided { AreDecided decided.now.case.now decided.now.pipes.now }
+    requires kind { IsKind decided.now.case.now.tables kind.now }
+    ensures { result ≡ exceeds_of decided.now.case.now kind.now ends.now }
+{
+    match kind {
+        NodeKind::Reservoir { .. } => false,
+        NodeKind::Junction { .. } => false,
+        NodeKind::Discharge { q0, h0, .. } => {
+            ends.len() == 1 && valve_over(decided, *q0, *h0, ends)
+        }
+        NodeKind::Inline { q0, h0, .. } => {
+            is_through(ends) && valve_over(decided, *q0, *h0, ends)
+        }
+        NodeKind::Pump { .. } => false,
+        NodeKind::Tank { .. } => false,
+        NodeKind::Vessel { gas, volume } => is_outside_gas(decided.case, *gas, *volume),
     }
 }

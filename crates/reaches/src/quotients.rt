@@ -1,6 +1,6 @@
 //! Products and quotients of sizes.
 ghost use Rattle.std.specs.Prelude.{◌≡◌, ◌+◌, ◌*◌, ◌<◌, ◌≤◌, ◌≤ℤ◌, ℤ, pos};
-ghost use Rattle.fixed_num.specs.Rounding.{rnd as rounded, half_up};
+ghost use Rattle.fixed_num.specs.Rounding.{rnd as rounded};
 
 use fixed_num::rnd;
 

@@ -1,10 +1,10 @@
 //! What division asks of a pipe: its reaches, their adjustment, its coefficients.
-ghost use Rattle.std.specs.Prelude.{◌≡◌, ◌+◌, ◌*◌, ◌<◌, ◌≤◌, ◌≤ℤ◌, ℤ, pos, true, IsTrue};
+ghost use Rattle.std.specs.Prelude.{◌≡◌, ◌*◌, ◌<◌, ◌≤◌, pos};
 ghost use Rattle.case_model.specs.Limits.{IsPipe, IsWithin};
-ghost use Rattle.case_model.specs.Formulas.{nearest_reaches as nearest_of, reach_count as count_of, b_of};
-ghost use Rattle.case_model.specs.Division.{is_count as is_count_of, is_adjusted as is_adjusted_of, has_coefficients as has_coefficients_of, are_accepted, is_divided as is_divided_of};
+ghost use Rattle.case_model.specs.Formulas.{nearest_reaches as nearest_of, reach_count as count_of};
+ghost use Rattle.case_model.specs.Division.{is_count as is_count_of, is_adjusted as is_adjusted_of};
+ghost use Rattle.case_model.specs.Division.{are_accepted};
 
-use crate::formulas::coefficients;
 use crate::quotients::{product, quotient, size};
 use case_model::Pipe;
 
@@ -65,49 +65,10 @@ fn passed(reaches: u64, speed: u64, dt: u64) -> u64
     reaches * speed * dt
 }
 
-/// Whether the impedance and the friction of a pipe in so many reaches are accepted.
-#[tactic(auto, unfolding(case_model::specs::Division::has_coefficients))]
-pub(crate) fn has_coefficients(pipe: &Pipe, dt: i64, reaches: u32) -> bool
-    requires pipe { IsPipe pipe.now }
-    requires dt { IsWithin (pos 1) (pos 1_000_000) dt }
-    requires some { 2 ≤ reaches }
-    requires few { reaches ≤ 65_536 }
-    ensures { result ≡ has_coefficients_of dt reaches pipe.now }
-{
-    let (b, r) = coefficients(pipe, dt, reaches);
-    are_coefficients(b, r)
-}
-
+/// Whether an impedance and a friction, cut to one more than their most, are within their limits.
 #[tactic(auto, unfolding(case_model::specs::Division::are_accepted))]
-fn are_coefficients(b: i64, r: i128) -> bool
+pub(crate) fn are_coefficients(b: i64, r: i128) -> bool
     ensures { result ≡ are_accepted b r }
 {
     100_000 <= b && b <= 10_000_000_000_000 && 0 <= r && r <= 100_000_000_000_000_000_000
-}
-
-/// Whether a pipe can be divided.
-pub(crate) fn is_divided(pipe: &Pipe, dt: i64, tolerance: i64) -> bool
-    requires pipe { IsPipe pipe.now }
-    requires dt { IsWithin (pos 1) (pos 1_000_000) dt }
-    requires tolerance { IsWithin (pos 0) (pos 500) tolerance }
-    ensures { result ≡ is_divided_of dt tolerance pipe.now }
-{
-    let reaches = reach_count(pipe, dt);
-    pipe.first != pipe.last
-        && is_count(reaches)
-        && is_adjusted(pipe, dt, tolerance, reaches)
-        && has_coefficients(pipe, dt, reaches as u32)
-}
-
-/// The impedance of a pipe that can be divided, in 1e-6 s/m2.
-pub(crate) fn impedance(pipe: &Pipe, dt: i64, tolerance: i64) -> i64
-    requires pipe { IsPipe pipe.now }
-    requires dt { IsWithin (pos 1) (pos 1_000_000) dt }
-    requires tolerance { IsWithin (pos 0) (pos 500) tolerance }
-    requires divided { is_divided_of dt tolerance pipe.now ≡ true }
-    ensures value { result ≡ b_of dt (count_of dt pipe.now) pipe.now }
-    ensures range { IsWithin (pos 0) (pos 10_000_000_000_000) result }
-{
-    let (b, _) = coefficients(pipe, dt, reach_count(pipe, dt) as u32);
-    b
 }

@@ -15,7 +15,8 @@ use Rattle.regions.specs.declared.shapes.Spot.{Spot}
 use Rattle.regions.specs.declared.shapes.Spot.TheVariants.{AtNode, Inside}
 use Rattle.regions.specs.Needs.{Reads, home_of, AgreeAt, AgreeOnReads, AgreeAfter}
 use Rattle.regions.specs.Regions.{HasSpot}
-use Rattle.regions.specs.Sides.{no_end, end_at}
+use Rattle.case_model.specs.Joints.{no_end}
+use Rattle.regions.specs.Sides.{end_at}
 
 -- ---- a node, with all its ends
 

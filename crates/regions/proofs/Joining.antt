@@ -10,9 +10,11 @@ use Rattle.case_model.specs.declared.meshes.Mesh.{Mesh}
 use Rattle.case_model.specs.Mesh.{IsMesh, reaches, ends_of, is_end, end_node, end_index}
 use Rattle.regions.specs.declared.shapes.Layout.{Layout}
 use Rattle.regions.specs.declared.shapes.Shape.{Shape}
+use Rattle.regions.specs.declared.shapes.Shape.TheVariants.{OfNode, OfSeam, OfSection}
 use Rattle.regions.specs.Cuts.{window_of}
-use Rattle.regions.specs.Layouts.{sections_at, seams_before, section_number, station_number, layout_of}
-use Rattle.regions.specs.Sides.{no_end, end_at, shape_at, is_section_shape, is_section, sides_in, section_at_end, side_in, side_of_station, back_in, sides_of, side_of, back_of, AreMutual, IsWired}
+use Rattle.regions.specs.Layouts.{sections_at, seams_before, section_number, station_number, section_shape, layout_of}
+use Rattle.case_model.specs.Joints.{no_end}
+use Rattle.regions.specs.Sides.{end_at, shape_at, is_section_shape, is_section, sides_in, section_at_end, side_in, side_of_station, back_in, sides_of, side_of, back_of, AreMutual, IsWired}
 use Rattle.regions.proofs.Cutting.{sections-some}
 use Rattle.regions.proofs.Standing.{station-first, station-last, station-seam}
 use Rattle.regions.proofs.Strands.{IsOver, layout-over, shape-node, shape-seam, shape-section, strand, seam-inside, section-inside, node-inside}
@@ -255,3 +257,67 @@ over-mutual layout mesh w o good wired = record {
 
 pub all-mutual : (steps wish : ℕ) (mesh : Mesh) → IsMesh mesh → IsWired mesh → AreMutual (layout_of steps mesh wish) mesh
 all-mutual steps wish mesh good wired = over-mutual (layout_of steps mesh wish) mesh (window_of mesh wish) (layout-over steps wish mesh) good wired
+
+-- ---- the node at a section's end
+
+abbrev left_in : Shape → ℕ
+left_in (OfNode node) = 0
+left_in (OfSeam pipe place left right) = left
+left_in (OfSection pipe place count left right) = left
+
+abbrev right_in : Shape → ℕ
+right_in (OfNode node) = 0
+right_in (OfSeam pipe place left right) = right
+right_in (OfSection pipe place count left right) = right
+
+abbrev pipe_in : Shape → ℕ
+pipe_in (OfNode node) = 0
+pipe_in (OfSeam pipe place left right) = pipe
+pipe_in (OfSection pipe place count left right) = pipe
+
+abbrev node_in : Shape → ℕ
+node_in (OfNode node) = node
+node_in (OfSeam pipe place left right) = 0
+node_in (OfSection pipe place count left right) = 0
+
+not-seam : (pipe place left right node : ℕ) → OfSeam pipe place left right ≡ OfNode node → ⊥
+not-seam pipe place left right node e = cc
+
+-- a station of a section that is a node stands at an end of its pipe
+node-there : (layout : Layout) (mesh : Mesh) (w p y node : ℕ) (last : Bool) → IsOver layout mesh w → IsMesh mesh → p < length mesh.pipes → y ≡ end_node mesh p last → shape_at layout y ≡ OfNode node → node ≡ end_node mesh p last
+node-there layout mesh w p y node last o good h at e =
+    sym (ap node_in (sym (shape-node layout mesh w (end_node mesh p last) o ((found mesh p last good h).there)) ∙ ap (shape_at layout) (sym at) ∙ e))
+
+left-there : (layout : Layout) (mesh : Mesh) (w p i node : ℕ) → IsOver layout mesh w → IsMesh mesh → p < length mesh.pipes → i < sections_at mesh w p → shape_at layout (station_number mesh w p i) ≡ OfNode node → node ≡ end_node mesh p false
+left-there layout mesh w p zero node o good h b e = node-there layout mesh w p (station_number mesh w p 0) node false o good h (station-first mesh w p 0 refl) e
+left-there layout mesh w p (suc i) node o good h b e =
+    let s = shape-seam layout mesh w p i (station_number mesh w p (suc i)) o h (omega arith) (station-seam mesh w p (suc i) (omega arith) (λ q. absurd (omega arith)) ∙ (omega arith)) in
+    absurd (not-seam _ _ _ _ node (sym s ∙ e))
+
+right-there : (layout : Layout) (mesh : Mesh) (w p i node : ℕ) → IsOver layout mesh w → IsMesh mesh → p < length mesh.pipes → i < sections_at mesh w p → shape_at layout (station_number mesh w p (i + 1)) ≡ OfNode node → node ≡ end_node mesh p true
+right-there layout mesh w p i node o good h b e = elim (cases_lt (i + 1) (sections_at mesh w p)) [
+  | inl l ↦
+      let s = shape-seam layout mesh w p i (station_number mesh w p (i + 1)) o h l (station-seam mesh w p (i + 1) (omega arith) (λ q. absurd (omega arith)) ∙ (omega arith)) in
+      absurd (not-seam _ _ _ _ node (sym s ∙ e))
+  | inr l ↦ node-there layout mesh w p (station_number mesh w p (i + 1)) node true o good h (station-last mesh w p (i + 1) (omega arith) (omega arith)) e
+]
+
+-- the nodes at both sides of a section of a layout
+pub record HasNodes (layout : Layout) (mesh : Mesh) (pipe left right : ℕ) : Type 0 where
+  pub at_left : (node : ℕ) → shape_at layout left ≡ OfNode node → node ≡ end_node mesh pipe false
+  pub at_right : (node : ℕ) → shape_at layout right ≡ OfNode node → node ≡ end_node mesh pipe true
+
+pub section-nodes : (layout : Layout) (mesh : Mesh) (w x pipe place count left right : ℕ) → IsOver layout mesh w → IsMesh mesh → x < length layout.shapes → shape_at layout x ≡ OfSection pipe place count left right → HasNodes layout mesh pipe left right
+section-nodes layout mesh w x pipe place count left right o good h e = elim (strand layout mesh w x o h) [
+  | IsNode b ↦ let s = sym (shape-node layout mesh w x o b) ∙ e in absurd (cc)
+  | IsSeam p i m b a ↦ let s = sym (shape-seam layout mesh w p i x o m b a) ∙ e in absurd (cc)
+  | IsSection p i m b a ↦
+      let s : section_shape mesh w p i ≡ OfSection pipe place count left right = sym (ap (shape_at layout) a ∙ shape-section layout mesh w p i o m b) ∙ e in
+      let l : station_number mesh w p i ≡ left = ap left_in s in
+      let r : station_number mesh w p (i + 1) ≡ right = ap right_in s in
+      let q : p ≡ pipe = ap pipe_in s in
+      record {
+        at_left = λ node t. left-there layout mesh w p i node o good m b (ap (shape_at layout) l ∙ t) ∙ ap (λ (k : ℕ). end_node mesh k false) q;
+        at_right = λ node t. right-there layout mesh w p i node o good m b (ap (shape_at layout) r ∙ t) ∙ ap (λ (k : ℕ). end_node mesh k true) q;
+      }
+]

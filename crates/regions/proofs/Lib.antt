@@ -2,6 +2,7 @@ mod Blocking
 mod Counting
 mod Cutting
 mod Depending
+mod Ended
 mod Joining
 mod Listing
 mod Needing

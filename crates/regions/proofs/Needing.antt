@@ -17,7 +17,8 @@ use Rattle.regions.specs.Layouts.{sections_at, section_number, station_number, s
 use Rattle.regions.specs.Needs.{needs_of, Reads, Source, AreEnough}
 use Rattle.regions.specs.Needs.Source.{AtStart, InOwn, InBlock}
 use Rattle.regions.specs.Regions.{InStation, InStationBy, InStations, InShape, InRegion}
-use Rattle.regions.specs.Sides.{no_end, end_at, shape_at, is_section, sides_of, side_of, back_of, AreMutual, IsWired}
+use Rattle.case_model.specs.Joints.{no_end}
+use Rattle.regions.specs.Sides.{end_at, shape_at, is_section, sides_of, side_of, back_of, AreMutual, IsWired}
 use Rattle.regions.proofs.Blocking.{sections-in-order, stations-in-order}
 use Rattle.regions.proofs.Cutting.{sections-some, cut-next, cut-last, reaches-long}
 use Rattle.regions.proofs.Joining.{over-mutual, side-from, sides-from, back-from}

@@ -5,7 +5,7 @@ use Rattle.std.proofs.lemmas.Bool.{cases_lt, eqb-true}
 use Rattle.std.proofs.lemmas.Bool.Decides.{nat_tests}
 use Rattle.std.proofs.lemmas.Nat.{le-div, div_below}
 use Rattle.regions.specs.declared.parts.Part.TheVariants.{Own, Left, Right}
-use Rattle.regions.specs.Regions.{tall, InStation, InBand, InSection, part_from, part_of}
+use Rattle.regions.specs.Regions.{height, InStation, InBand, InSection, part_from, part_of}
 
 le_true : (a b : ℕ) → a ≤ b → nat_le a b ≡ true
 le_true a b h = grind (arith, nat_tests)
@@ -24,27 +24,27 @@ pub record InWindow (w m u : ℕ) : Type 0 where
 pub window_of_step : (w u : ℕ) → 0 < w → 1 ≤ u → InWindow w ((u - 1) / w) u
 window_of_step w u p h = record { low = omega arith; high = omega arith }
 
-from_left : (w n i t m : ℕ) → t + tall n i ≤ (m + 1) * w → i ≤ n - i → part_from w n i t m ≡ Left m
+from_left : (w n i t m : ℕ) → t + height n i ≤ (m + 1) * w → i ≤ n - i → part_from w n i t m ≡ Left m
 unfolding part_from
-from_left w n i t m h k = rw (le_true (t + tall n i) ((m + 1) * w) h, le_true i (n - i) k) refl
+from_left w n i t m h k = rw (le_true (t + height n i) ((m + 1) * w) h, le_true i (n - i) k) refl
 
-from_right : (w n i t m : ℕ) → t + tall n i ≤ (m + 1) * w → n - i < i → part_from w n i t m ≡ Right m
+from_right : (w n i t m : ℕ) → t + height n i ≤ (m + 1) * w → n - i < i → part_from w n i t m ≡ Right m
 unfolding part_from
-from_right w n i t m h k = rw (le_true (t + tall n i) ((m + 1) * w) h, le_false i (n - i) k) refl
+from_right w n i t m h k = rw (le_true (t + height n i) ((m + 1) * w) h, le_false i (n - i) k) refl
 
-from_own : (w n i t m : ℕ) → (m + 1) * w < t + tall n i → part_from w n i t m ≡ Own (m + 1)
+from_own : (w n i t m : ℕ) → (m + 1) * w < t + height n i → part_from w n i t m ≡ Own (m + 1)
 unfolding part_from
-from_own w n i t m h = rw (le_false (t + tall n i) ((m + 1) * w) h) refl
+from_own w n i t m h = rw (le_false (t + height n i) ((m + 1) * w) h) refl
 
-early : (w n i t : ℕ) → t ≤ tall n i → part_of w n i t ≡ Own 0
+early : (w n i t : ℕ) → t ≤ height n i → part_of w n i t ≡ Own 0
 unfolding part_of
-early w n i t h = rw (le_true t (tall n i) h) refl
+early w n i t h = rw (le_true t (height n i) h) refl
 
-later : (w n i t m : ℕ) → 0 < w → m * w + tall n i < t → t ≤ (m + 1) * w + tall n i → part_of w n i t ≡ part_from w n i t m
+later : (w n i t m : ℕ) → 0 < w → m * w + height n i < t → t ≤ (m + 1) * w + height n i → part_of w n i t ≡ part_from w n i t m
 unfolding part_of
 later w n i t m p low high =
-    let e : (t - tall n i - 1) / w ≡ m = window_is w m (t - tall n i) p (omega arith) (omega arith) in
-    rw (le_false t (tall n i) (omega arith)) (ap (part_from w n i t) e)
+    let e : (t - height n i - 1) / w ≡ m = window_is w m (t - height n i) p (omega arith) (omega arith) in
+    rw (le_false t (height n i) (omega arith)) (ap (part_from w n i t) e)
 
 -- ---- a region's point has the region as its part
 
@@ -65,7 +65,7 @@ section_part w n zero i t p h s = early w n i t s.1
 section_part w n (suc m) i t p h s =
     let a = s.after in
     let b = s.before in
-    later w n i t m p (omega arith) (omega arith) ∙ elim (cases_lt ((m + 1) * w) (t + tall n i)) [
+    later w n i t m p (omega arith) (omega arith) ∙ elim (cases_lt ((m + 1) * w) (t + height n i)) [
       | inl l ↦ from_own w n i t m l ∙ ap Own (add-one m)
       | inr l ↦ elim (cases_lt (n - i) i) [
         | inl k ↦ absurd (s.right m (record { after = omega arith; before = omega arith }))
@@ -80,7 +80,7 @@ pub data Somewhere (w n i t : ℕ) : Type 0 where
   InLeft : (m : ℕ) → InStation w m i t → part_of w n i t ≡ Left m → Somewhere w n i t
   InRight : (m : ℕ) → InStation w m (n - i) t → part_of w n i t ≡ Right m → Somewhere w n i t
 
-band : (w n m i t : ℕ) → 0 < w → w ≤ n → i ≤ n → m * w + tall n i < t → t ≤ (m + 1) * w + tall n i → (m + 1) * w < t + tall n i → InBand w n m i t
+band : (w n m i t : ℕ) → 0 < w → w ≤ n → i ≤ n → m * w + height n i < t → t ≤ (m + 1) * w + height n i → (m + 1) * w < t + height n i → InBand w n m i t
 band w n m i t p wn h a b l =
     let e = later w n i t m p a b ∙ from_own w n i t m l in
     record {
@@ -90,8 +90,8 @@ band w n m i t p wn h a b l =
       right = λ k s. let f = right_part w n k i t p wn h s in cc;
     }
 
-somewhere_in : (w n m i t : ℕ) → 0 < w → w ≤ n → i ≤ n → m * w + tall n i < t → t ≤ (m + 1) * w + tall n i → Somewhere w n i t
-somewhere_in w n m i t p wn h a b = elim (cases_lt ((m + 1) * w) (t + tall n i)) [
+somewhere_in : (w n m i t : ℕ) → 0 < w → w ≤ n → i ≤ n → m * w + height n i < t → t ≤ (m + 1) * w + height n i → Somewhere w n i t
+somewhere_in w n m i t p wn h a b = elim (cases_lt ((m + 1) * w) (t + height n i)) [
   | inl l ↦ InOwn (suc m) (band w n m i t p wn h a b l) (omega arith) (omega arith) (later w n i t m p a b ∙ from_own w n i t m l ∙ ap Own (add-one m))
   | inr l ↦ elim (cases_lt (n - i) i) [
     | inl k ↦ let s : InStation w m (n - i) t = record { after = omega arith; before = omega arith } in InRight m s (right_part w n m i t p wn h s)
@@ -100,12 +100,12 @@ somewhere_in w n m i t p wn h a b = elim (cases_lt ((m + 1) * w) (t + tall n i))
 ]
 
 pub somewhere : (w n i t : ℕ) → 0 < w → w ≤ n → i ≤ n → 1 ≤ t → Somewhere w n i t
-somewhere w n i t p wn h some = elim (cases_lt (tall n i) t) [
+somewhere w n i t p wn h some = elim (cases_lt (height n i) t) [
   | inl l ↦
-      let s = window_of_step w (t - tall n i) p (omega arith) in
+      let s = window_of_step w (t - height n i) p (omega arith) in
       let a = s.low in
       let b = s.high in
-      somewhere_in w n ((t - tall n i - 1) / w) i t p wn h (omega arith) (omega arith)
+      somewhere_in w n ((t - height n i - 1) / w) i t p wn h (omega arith) (omega arith)
   | inr l ↦ InOwn 0 (some, l) (omega arith) (omega arith) (early w n i t l)
 ]
 

@@ -3,7 +3,7 @@ use Rattle.std.proofs.Common.{◌≡◌, ℕ, zero, suc, ◌+◌, ◌-◌, ◌*�
 use Rattle.std.proofs.lemmas.Bool.{cases_lt, cases_order}
 use Rattle.std.proofs.Math.Nat.{mul-le-mul_left}
 use Rattle.regions.specs.Blocks.{InSectionBlock, InStationBlock}
-use Rattle.regions.specs.Regions.{tall, InStation, InSection}
+use Rattle.regions.specs.Regions.{height, InStation, InSection}
 use Rattle.regions.proofs.Parting.{somewhere}
 use Rattle.regions.proofs.Parting.Somewhere.{InOwn, InLeft, InRight}
 
@@ -16,8 +16,8 @@ apart q m w h = let k : q + 1 ≤ m = omega arith in omega (arith, mul-le-mul_le
 pub station-block : (w m d k : ℕ) → InStationBlock w d k → InStation w m d (m * w + k)
 station-block w m d k h = let a = h.after in record { after = omega arith; before = elim h.near [ inl e ↦ omega arith | inr e ↦ omega arith ] }
 
-mirror-tall : (n i : ℕ) → i ≤ n → tall n (n - i) ≡ tall n i
-mirror-tall n i h = omega arith
+mirror-height : (n i : ℕ) → i ≤ n → height n (n - i) ≡ height n i
+mirror-height n i h = omega arith
 
 mirror : (w n r i t : ℕ) → i ≤ n → InSection w n r i t → InSection w n r (n - i) t
 mirror w n zero i t h s = let a = s.1 in (s.0, omega arith)
@@ -37,15 +37,15 @@ pub data SectionPoint (w n m i t : ℕ) : Type 0 where
   PointAtStart : t ≡ 0 → SectionPoint w n m i t
   PointIn : (r : ℕ) → r ≤ m → 0 < i → i < n → InSection w n r i t → SectionPoint w n m i t
 
-own-low : (w n r m i t : ℕ) → InSection w n r i t → t ≤ m * w + tall n i → r ≤ m
+own-low : (w n r m i t : ℕ) → InSection w n r i t → t ≤ m * w + height n i → r ≤ m
 own-low w n zero m i t s h = omega arith
 own-low w n (suc q) m i t s h = elim (cases_lt q m) [
   | inl l ↦ omega arith
   | inr l ↦ let a = s.after in let g = mul-le-mul_left w l in absurd (omega arith)
 ]
 
-block-tall : (w n d k : ℕ) → w ≤ n → 2 ≤ n → InSectionBlock w d k → (k ≤ tall n d) × (d < n)
-block-tall w n d k wn two h =
+block-height : (w n d k : ℕ) → w ≤ n → 2 ≤ n → InSectionBlock w d k → (k ≤ height n d) × (d < n)
+block-height w n d k wn two h =
     let a = h.away in
     let f = h.fits in
     elim h.near [ inl e ↦ (omega arith, omega arith) | inr e ↦ (omega arith, omega arith) ]
@@ -73,7 +73,7 @@ no-right w n q m d k wn two h s =
 
 pub section-block : (w n m d k : ℕ) → 0 < w → w ≤ n → 2 ≤ n → InSectionBlock w d k → SectionPoint w n m d (m * w + k)
 section-block w n m d k p wn two h =
-    let b = block-tall w n d k wn two h in
+    let b = block-height w n d k wn two h in
     let low = b.0 in
     let high = b.1 in
     elim (cases_lt 0 (m * w + k)) [
@@ -136,7 +136,7 @@ pub data SectionSource (w n m j t : ℕ) : Type 0 where
   FromRight : (b k : ℕ) → m ≡ suc b → InStationBlock w (n - j) k → b * w + k ≡ t → SectionSource w n m j t
 
 -- a point of a station's triangle beside a point of a section's region is of the window's end
-front : (w n m q i j t : ℕ) → 0 < w → w ≤ n → 0 < i → i < n → i ≤ j + 1 → j ≤ i + 1 → m * w + tall n i < t + 1 → t + 1 ≤ (m + 1) * w + tall n i
+front : (w n m q i j t : ℕ) → 0 < w → w ≤ n → 0 < i → i < n → i ≤ j + 1 → j ≤ i + 1 → m * w + height n i < t + 1 → t + 1 ≤ (m + 1) * w + height n i
     → (InStation w m i (t + 1) → ⊥) → InStation w q j t → (q ≡ m) × InStationBlock w j (t - m * w) × (m * w + (t - m * w) ≡ t)
 front w n m q i j t p wn lo hi near far low high none s =
     let a = s.after in
@@ -172,7 +172,7 @@ section-reads w n (suc m) i j t p wn lo hi near far h s =
             FromLeft m (t - m * w) refl g.1 g.2
         | InRight q o f ↦
             let back : n - (n - i) ≡ i = omega arith in
-            let same : tall n (n - i) ≡ tall n i = mirror-tall n i (omega arith) in
+            let same : height n (n - i) ≡ height n i = mirror-height n i (omega arith) in
             let g = front w n m q (n - i) (n - j) t p wn (omega arith) (omega arith) (omega arith) (omega arith) (omega arith) (omega arith) (s.right m) o in
             FromRight m (t - m * w) refl g.1 g.2
       ]

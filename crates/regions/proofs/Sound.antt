@@ -15,12 +15,13 @@ use Rattle.regions.specs.LaidOut.{IsCutFor, IsLaidOut, IsLayout}
 use Rattle.regions.specs.Layouts.{layout_of}
 use Rattle.regions.specs.Needs.{AreEnough}
 use Rattle.regions.specs.Regions.{IsPartition, IsWhole}
-use Rattle.regions.specs.Sides.{IsWired, AreMutual}
-use Rattle.regions.proofs.Joining.{all-mutual}
+use Rattle.regions.specs.declared.shapes.Shape.TheVariants.{OfSection}
+use Rattle.regions.specs.Sides.{shape_at, IsWired, AreMutual}
+use Rattle.regions.proofs.Joining.{HasNodes, all-mutual, section-nodes}
 use Rattle.regions.proofs.Needing.{enough}
 use Rattle.regions.proofs.Owning.{partition}
 use Rattle.regions.proofs.Reading.{all-written}
-use Rattle.regions.proofs.Strands.{layout-windows}
+use Rattle.regions.proofs.Strands.{IsOver, layout-over, layout-windows}
 use Rattle.regions.proofs.Whole.{whole}
 use Rattle.regions.proofs.Windowed.{window-is, window-some}
 use Rattle.regions.proofs.Wiring.{wired}
@@ -72,6 +73,12 @@ laid_whole layout mesh l =
 
 pub whole_layout : (layout : Layout) → IsLayout layout → IsWhole layout
 whole_layout layout l = laid_whole layout l.mesh l.laid_out
+
+pub laid_nodes : (layout : Layout) (mesh : Mesh) (x pipe place count left right : ℕ) → IsLaidOut layout mesh → x < length layout.shapes → shape_at layout x ≡ OfSection pipe place count left right → HasNodes layout mesh pipe left right
+laid_nodes layout mesh x pipe place count left right l h e =
+    let c = l.cut in
+    let o = subst (λ (y : Layout). IsOver y mesh (window_of mesh c.wish)) (sym c.layout_is) (layout-over l.case.steps c.wish mesh) in
+    section-nodes layout mesh (window_of mesh c.wish) x pipe place count left right o c.accepted.good h e
 
 pub laid_mutual : (layout : Layout) (mesh : Mesh) → IsLaidOut layout mesh → AreMutual layout mesh
 laid_mutual layout mesh l =

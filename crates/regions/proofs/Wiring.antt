@@ -14,7 +14,8 @@ use Rattle.case_model.specs.Ends.{end_if, ends_at}
 use Rattle.case_model.specs.Mesh.{is_end, ends_of, end_node, end_index}
 use Rattle.case_model.specs.Parts.{no_pipe}
 use Rattle.case_model.proofs.Keeping.{parts}
-use Rattle.regions.specs.Sides.{no_end, end_at, IsWired}
+use Rattle.case_model.specs.Joints.{no_end}
+use Rattle.regions.specs.Sides.{end_at, IsWired}
 use Rattle.regions.proofs.Joining.{end-is}
 use Rattle.case_model.proofs.ListFacts.{any-index}
 

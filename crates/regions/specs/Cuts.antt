@@ -1,5 +1,6 @@
 -- How pipes are cut into sections, and time into windows.
-use Rattle.std.specs.Prelude.{◌≡◌, ℕ, zero, suc, ◌+◌, ◌-◌, ◌/◌, ◌%◌, ◌<◌, ◌≤◌, ◌⊎◌, min, max, nat_lt, if◌then◌else◌, List, length, fold}
+use Rattle.std.specs.Prelude.{◌≡◌, ℕ, zero, suc, ◌+◌, ◌-◌, ◌/◌, ◌%◌, ◌<◌, ◌≤◌, ◌⊎◌, min, max}
+use Rattle.std.specs.Prelude.{nat_lt, if◌then◌else◌, List, length, fold}
 use Rattle.case_model.specs.declared.meshes.TheConstants.{MOST_ENDS}
 use Rattle.case_model.specs.declared.meshes.Mesh.{Mesh}
 use Rattle.case_model.specs.declared.meshes.PipeMesh.{PipeMesh}

@@ -1,5 +1,6 @@
 -- Which points (places at steps, and nodes at steps) lie in which region of which strand.
-use Rattle.std.specs.Prelude.{◌≡◌, ℕ, zero, suc, ◌+◌, ◌-◌, ◌*◌, ◌/◌, ◌<◌, ◌≤◌, ◌⊎◌, min, nat_le, true, false, if◌then◌else◌, length}
+use Rattle.std.specs.Prelude.{◌≡◌, ℕ, zero, suc, ◌+◌, ◌-◌, ◌*◌, ◌/◌, ◌<◌, ◌≤◌, ◌⊎◌, min, nat_le}
+use Rattle.std.specs.Prelude.{true, false, if◌then◌else◌, length}
 use Rattle.std.specs.List.{position_or_len, range_with_len}
 use Rattle.case_model.specs.declared.meshes.Mesh.{Mesh}
 use Rattle.case_model.specs.Mesh.{reaches, end_node}
@@ -16,8 +17,8 @@ use Rattle.regions.specs.Layouts.{sections_at, section_number, station_number}
 use Rattle.regions.specs.Sides.{shape_at}
 
 -- in a section of n reaches, the distance from the nearer station
-abbrev pub tall : ℕ → ℕ → ℕ
-tall n i = min i (n - i)
+abbrev pub height : ℕ → ℕ → ℕ
+height n i = min i (n - i)
 
 -- a point at distance d from a station is in the station's region m, over the steps m*w + k: at d =
 -- 0 the station itself, for k from 1 to w, and farther off a triangle, where d < k and d + k <= w
@@ -27,14 +28,14 @@ pub record InStation (w m d t : ℕ) : Type 0 where
 
 -- place i of a section, at step t, is in its region m + 1: it is in no station's region
 pub record InBand (w n m i t : ℕ) : Type 0 where
-  pub after : m * w + tall n i < t
-  pub before : t ≤ (m + 1) * w + tall n i
+  pub after : m * w + height n i < t
+  pub before : t ≤ (m + 1) * w + height n i
   pub left : (k : ℕ) → InStation w k i t → ⊥
   pub right : (k : ℕ) → InStation w k (n - i) t → ⊥
 
 -- place i of a section of n reaches, 0 < i < n, is in this region of the section
 abbrev pub InSection : ℕ → ℕ → ℕ → ℕ → ℕ → Type 0
-InSection w n zero i t = (1 ≤ t) × (t ≤ tall n i)
+InSection w n zero i t = (1 ≤ t) × (t ≤ height n i)
 InSection w n (suc m) i t = InBand w n m i t
 
 -- place i of pipe p, at step t, is in region m of station x by this shape, a section that ends at x
@@ -74,12 +75,13 @@ InRegion layout x m spot t = InShape layout x m t (shape_at layout x) spot
 -- which part of space and time has place i of a section of n reaches at step t, 0 <= i <= n
 unfoldable pub part_from : ℕ → ℕ → ℕ → ℕ → ℕ → Part
 part_from w n i t m =
-    if nat_le (t + tall n i) ((m + 1) * w)
+    if nat_le (t + height n i) ((m + 1) * w)
     then (if nat_le i (n - i) then Left m else Right m)
     else Own (m + 1)
 
 unfoldable pub part_of : ℕ → ℕ → ℕ → ℕ → Part
-part_of w n i t = if nat_le t (tall n i) then Own 0 else part_from w n i t ((t - tall n i - 1) / w)
+part_of w n i t =
+    if nat_le t (height n i) then Own 0 else part_from w n i t ((t - height n i - 1) / w)
 
 -- the section of pipe p that has place i: the first that ends there or behind it
 unfoldable pub section_of : Mesh → ℕ → ℕ → ℕ → ℕ

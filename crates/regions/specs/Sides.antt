@@ -1,16 +1,14 @@
 -- The neighbours of strands.
-use Rattle.std.specs.Prelude.{◌≡◌, ℕ, ◌-◌, ◌<◌, ◌==◌, not, Bool, true, false, if◌then◌else◌, length, slice_index_or}
+use Rattle.std.specs.Prelude.{◌≡◌, ℕ, ◌-◌, ◌<◌, ◌==◌, not, Bool, true, false, if◌then◌else◌, length}
+use Rattle.std.specs.Prelude.{slice_index_or}
 use Rattle.case_model.specs.declared.meshes.End.{End}
 use Rattle.case_model.specs.declared.meshes.Mesh.{Mesh}
+use Rattle.case_model.specs.Joints.{no_end}
 use Rattle.case_model.specs.Mesh.{ends_of, end_node, end_index}
 use Rattle.regions.specs.declared.shapes.Layout.{Layout}
 use Rattle.regions.specs.declared.shapes.Shape.{Shape}
 use Rattle.regions.specs.declared.shapes.Shape.TheVariants.{OfNode, OfSeam, OfSection}
 use Rattle.regions.specs.Layouts.{sections_at, section_number}
-
--- what stands for an end that a node doesn't have
-abbrev pub no_end : End
-no_end = record { pipe = 0; at_last = false }
 
 -- the end at index j of node k
 abbrev pub end_at : Mesh → ℕ → ℕ → End

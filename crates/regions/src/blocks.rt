@@ -1,6 +1,7 @@
 //! The points of the blocks that strands hand to their neighbours.
 ghost use Rattle.std.specs.Prelude.{◌≡◌, ◌<◌, length};
-ghost use Rattle.regions.specs.Blocks.{block_point_of, section_point as section_is, station_point as station_is};
+ghost use Rattle.regions.specs.Blocks.{block_point_of, section_point as section_is};
+ghost use Rattle.regions.specs.Blocks.{station_point as station_is};
 
 use crate::{Layout, Shape};
 

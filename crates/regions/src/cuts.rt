@@ -1,6 +1,7 @@
 //! How pipes are cut into sections, and time into windows.
 ghost use Rattle.std.specs.Prelude.{◌≡◌, ◌+◌, ◌<◌, ◌≤◌};
-ghost use Rattle.regions.specs.Cuts.{IsWindow, window_of, windows_of, cut, sections as sections_are, section_reaches as reaches_are};
+ghost use Rattle.regions.specs.Cuts.{IsWindow, window_of, windows_of, cut};
+ghost use Rattle.regions.specs.Cuts.{sections as sections_are, section_reaches as reaches_are};
 
 use crate::WIDEST_WINDOW;
 use case_model::Mesh;

@@ -3,7 +3,6 @@
 
 mod blocks;
 mod cuts;
-mod joints;
 mod laws;
 mod layouts;
 mod numbers;

@@ -1,13 +1,14 @@
 //! The numbers of strands.
 ghost use Rattle.std.specs.Prelude.{◌≡◌, ◌+◌, ◌<◌, ◌≤◌, length};
-ghost use Rattle.case_model.specs.Mesh.{IsMesh};
+ghost use Rattle.case_model.specs.Joints.{all_joints};
 ghost use Rattle.regions.specs.Cuts.{IsLimited};
-ghost use Rattle.regions.specs.Layouts.{sections_at, seams_before as seams_are, sections_before as sections_are, section_number as section_is, station_number as station_is};
+ghost use Rattle.regions.specs.Layouts.{sections_at, seams_before as seams_are};
+ghost use Rattle.regions.specs.Layouts.{sections_before as sections_are};
+ghost use Rattle.regions.specs.Layouts.{section_number as section_is, station_number as station_is};
 ghost use Rattle.regions.specs.Numbers.{IsCutsOf, AreFew};
 
 use crate::cuts::sections;
-use crate::joints::find_node;
-use case_model::Mesh;
+use case_model::{Mesh, PipeJoints};
 
 /// The count of seams of the pipes before this one.
 fn seams_before(mesh: &Mesh, window: u64, pipe: u32) -> u32
@@ -65,16 +66,18 @@ pub(crate) struct Cuts {
     section: u32,
 }
 
-/// The cuts of a pipe.
-pub(crate) fn cuts_of(mesh: &Mesh, window: u64, pipe: u32) -> Cuts
+/// The cuts of a pipe, whose ends stand there.
+pub(crate) fn cuts_of(mesh: &Mesh, joints: &[PipeJoints], window: u64, pipe: u32) -> Cuts
     requires limits { IsLimited mesh.now }
     requires inside { pipe < length mesh.now.pipes }
+    requires joints { joints.now ≡ all_joints mesh.now }
     ensures cuts { IsCutsOf mesh.now window pipe result }
     ensures few { AreFew result }
 {
     let count = sections(window, mesh.pipes.as_slice()[pipe as usize].reaches);
-    let first = find_node(mesh, pipe, false);
-    let last = find_node(mesh, pipe, true);
+    let ends = joints[pipe as usize];
+    let first = ends.first.node as u32;
+    let last = ends.last.node as u32;
     let seam = mesh.ends.as_slice().len() as u32 + seams_before(mesh, window, pipe);
     let section = section_number(mesh, window, pipe, 0);
     Cuts {

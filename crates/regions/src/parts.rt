@@ -34,13 +34,13 @@ pub(crate) fn part_of(window: u64, reaches: u32, place: u32, step: u64) -> Part
     requires inside { place ≤ reaches }
     ensures { result ≡ part_is window reaches place step }
 {
-    let tall = place.min(reaches - place) as u64;
-    if step <= tall {
+    let height = place.min(reaches - place) as u64;
+    if step <= height {
         return Part::Own(0);
     }
-    let number = (step - tall - 1) / window;
-    let rest = (step - tall - 1) % window;
-    if 2 * tall + rest >= window {
+    let number = (step - height - 1) / window;
+    let rest = (step - height - 1) % window;
+    if 2 * height + rest >= window {
         Part::Own(number + 1)
     } else if place <= reaches - place {
         Part::Left(number)

@@ -1,7 +1,8 @@
 //! Which spots lie in which region of a strand.
 ghost use Rattle.std.specs.Prelude.{◌≡◌, ◌<◌, ◌≤◌, ◌↔◌, IsTrue, length};
 ghost use Rattle.regions.specs.LaidOut.{IsLayout};
-ghost use Rattle.regions.specs.Regions.{InRegion, InStationBy, InStations, InSection, IsLong, IsWhole};
+ghost use Rattle.regions.specs.Regions.{InRegion, InStationBy, InStations, InSection, IsLong};
+ghost use Rattle.regions.specs.Regions.{IsWhole};
 ghost use Rattle.regions.specs.Sides.{shape_at as shape_is};
 
 use crate::parts::{in_section, in_station};

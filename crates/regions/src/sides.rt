@@ -1,15 +1,17 @@
 //! The neighbours of strands.
-ghost use Rattle.std.specs.Prelude.{◌≡◌, ◌<◌, ◌==◌, if◌then◌else◌, length};
-ghost use Rattle.case_model.specs.Mesh.{ends_of as ends_are};
+ghost use Rattle.std.specs.Prelude.{◌≡◌, ◌<◌, ◌==◌, ℕ, if◌then◌else◌, length};
+ghost use Rattle.case_model.specs.Mesh.{ends_of as ends_are, end_node, end_index};
+ghost use Rattle.regions.specs.declared.shapes.Shape.TheVariants.{OfNode};
 ghost use Rattle.regions.specs.Cuts.{IsLimited};
 ghost use Rattle.regions.specs.LaidOut.{IsLaidOut};
-ghost use Rattle.regions.specs.Sides.{no_end, end_at as end_is, section_at_end as section_is, shape_at as shape_is, side_of_station as side_is, sides_of, side_of, back_of};
+ghost use Rattle.regions.specs.Sides.{end_at as end_is, section_at_end as section_is};
+ghost use Rattle.regions.specs.Sides.{shape_at as shape_is, side_of_station as side_is};
+ghost use Rattle.regions.specs.Sides.{sides_of, side_of, back_of};
 
 use crate::cuts::sections;
-use crate::joints::find_index;
 use crate::numbers::section_number;
 use crate::{Layout, Shape};
-use case_model::{End, Mesh};
+use case_model::{End, Mesh, find_end};
 
 impl Layout {
     /// How many neighbours a strand has: a node one for each of its ends, others two.
@@ -81,11 +83,13 @@ impl Layout {
     // Which side of a station the section of this pipe is that ends there, at its last place or its
     // first.
     fn side_of_station(&self, mesh: &Mesh, pipe: u32, last: bool, station: u32) -> u32
-        requires { IsLimited mesh.now }
+        requires limits { IsLimited mesh.now }
+        requires node { (node : ℕ) → shape_is self.now station ≡ OfNode node →
+            node ≡ end_node mesh.now pipe last }
         ensures { result ≡ side_is mesh.now pipe last (shape_is self.now station) }
     {
         match self.shape_at(station) {
-            Shape::OfNode { .. } => find_index(mesh, pipe, last),
+            Shape::OfNode { node } => index_at(mesh, node, pipe, last),
             Shape::OfSeam { .. } => if last { 0 } else { 1 },
             Shape::OfSection { .. } => 0,
         }
@@ -111,6 +115,18 @@ fn end_at(mesh: &Mesh, node: u32, index: u32) -> End
 {
     let ends = mesh.ends.as_slice()[node as usize].as_slice();
     ends[index as usize]
+}
+
+// Which of the ends of a node that of a pipe is.
+fn index_at(mesh: &Mesh, node: u32, pipe: u32, last: bool) -> u32
+    requires limits { IsLimited mesh.now }
+    requires node { node ≡ end_node mesh.now pipe last }
+    ensures { result ≡ end_index mesh.now pipe last }
+{
+    match mesh.ends.as_slice().get(node as usize) {
+        Some(ends) => find_end(ends.as_slice(), pipe, last) as u32,
+        None => 0,
+    }
 }
 
 // The section at this end of a pipe.

@@ -18,7 +18,7 @@ use Rattle.case_model.specs.Mesh.{no_pipe, reaches, base_of, places_before, IsNu
 use Rattle.case_model.proofs.RowLaws.{length-states, state-at, pipe-at, point-at, length-points}
 use Rattle.case_model.specs.Rows.{row, points, states, all_points}
 use Rattle.envelope.specs.Cells.{is_within}
-use Rattle.envelope.specs.CellLaws.{below-first}
+use Rattle.envelope.proofs.CellLaws.{below-first}
 use Rattle.envelope.specs.Extremes.{first_of}
 use Rattle.envelope.specs.Folds.{Stands, spans_of, steps_of, IsSameFold}
 use Rattle.envelope.specs.Notings.{Noting, Noted, nothing, only, noted, line_noted, union, Agree}

@@ -23,9 +23,11 @@ use Rattle.case_model.proofs.PlaceLaws.{length-places}
 use Rattle.case_model.proofs.RowLaws.{length-states, row-good, near-good, state-next, point-inside, pipe-at, point-at, length-points, end-is, length-all_points, length-all_ends, point-first, point-last, points-from, points-good}
 use Rattle.case_model.specs.Rows.{row, near, node_ends, end_point, points, states, all_points, all_ends}
 use Rattle.case_model.specs.Runs.{run_of, point_at}
-use Rattle.row_steps.specs.declared.joints.PipeJoints.{PipeJoints}
+use Rattle.case_model.specs.declared.joints.PipeJoints.{PipeJoints}
 use Rattle.row_steps.proofs.Filling.{all-written}
-use Rattle.row_steps.specs.Stepping.{joints_of, all_joints, beside, HasPlaces, HasEnds, bad_marks}
+use Rattle.case_model.specs.Joints.{joints_of, all_joints}
+use Rattle.case_model.proofs.Joining.{joints-at}
+use Rattle.row_steps.specs.Stepping.{beside, HasPlaces, HasEnds, bad_marks}
 
 -- ---- the points beside a node
 
@@ -186,14 +188,6 @@ pipe-made law s p n count old new run first last h f l =
     (which-place i (reaches law.mesh p) (omega arith)))
 
 -- ---- both ends of each pipe
-
-pub length-joints : (mesh : Mesh) → length (all_joints mesh) ≡ length mesh.pipes
-unfolding all_joints
-length-joints mesh = length-map-range_with_len (joints_of mesh) 0 (length mesh.pipes)
-
-pub joints-at : (mesh : Mesh) (p : ℕ) (d : PipeJoints) → p < length mesh.pipes → get_or (all_joints mesh) p d ≡ joints_of mesh p
-unfolding all_joints
-joints-at mesh p d h = get_or-map-range_with_len (joints_of mesh) 0 (length mesh.pipes) p p d h (omega arith)
 
 pub given-at : (law : Meaning) (s p : ℕ) (last : Bool) (given : List (List Point)) → given ≡ all_ends law s → IsMesh law.mesh → p < length law.mesh.pipes → get_or (get_or given (end_node law.mesh p last) []) (end_index law.mesh p last) Bad ≡ end_point law (s + 1) (row law s) p last
 unfolding end_point

@@ -1,26 +1,14 @@
 -- What the stepping of rows keeps in memory, in terms of the mesh.
-use Rattle.std.specs.Prelude.{◌≡◌, ℕ, ◌+◌, ◌-◌, ◌<◌, Bool, true, false, ◌||◌, if◌then◌else◌, List, [], ◌++◌, length, map, slice_index_or}
+use Rattle.std.specs.Prelude.{◌≡◌, ℕ, ◌+◌, ◌-◌, ◌<◌, Bool, true, false, ◌||◌, if◌then◌else◌, List}
+use Rattle.std.specs.Prelude.{[], ◌++◌, length, map, slice_index_or}
 use Rattle.std.specs.List.{flat_map, list_any, range_with_len}
 use Rattle.case_model.specs.declared.meshes.End.{End}
 use Rattle.case_model.specs.declared.meshes.Mesh.{Mesh}
 use Rattle.case_model.specs.declared.points.Point.{Point}
 use Rattle.case_model.specs.declared.points.Point.TheVariants.{Bad}
 use Rattle.case_model.specs.declared.states.NodeState.{NodeState}
-use Rattle.case_model.specs.Mesh.{reaches, ends_of, end_node, end_index}
+use Rattle.case_model.specs.Mesh.{reaches, ends_of}
 use Rattle.case_model.specs.Places.{is_bad, is_bad_state}
-use Rattle.row_steps.specs.declared.joints.Joint.{Joint}
-use Rattle.row_steps.specs.declared.joints.PipeJoints.{PipeJoints}
-
--- where an end of a pipe stands: its node, and which of the node's ends it is
-abbrev pub joint_of : Mesh → ℕ → Bool → Joint
-joint_of mesh p last = record { node = end_node mesh p last; index = end_index mesh p last }
-
-abbrev pub joints_of : Mesh → ℕ → PipeJoints
-joints_of mesh p = record { first = joint_of mesh p false; last = joint_of mesh p true }
-
--- both ends of each pipe
-unfoldable pub all_joints : Mesh → List PipeJoints
-all_joints mesh = map (joints_of mesh) (range_with_len 0 (length mesh.pipes))
 
 -- the point beside a pipe end, of the points of all pipes
 abbrev pub beside : List (List Point) → End → Point

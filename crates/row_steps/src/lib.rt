@@ -3,7 +3,6 @@
 #![tactic(auto)]
 
 mod fault;
-mod joints;
 mod noting;
 mod ranges;
 mod run;

@@ -1,5 +1,6 @@
 //! Rows from the initial one to the last step or the first fault.
-ghost use Rattle.std.specs.Prelude.{◌≡◌, ℕ, ◌+◌, ◌^◌, ◌<◌, ◌≤◌, [], ◌∷◌, length, Option, Ok, None, IfOk, IfSome};
+ghost use Rattle.std.specs.Prelude.{◌≡◌, ℕ, ◌+◌, ◌^◌, ◌<◌, ◌≤◌, [], ◌∷◌, length, Option, Ok, None};
+ghost use Rattle.std.specs.Prelude.{IfOk, IfSome};
 ghost use Rattle.case_model.specs.Accepted.{IsAcceptedMesh};
 ghost use Rattle.case_model.specs.FirstFault.{first_fault};
 ghost use Rattle.case_model.specs.Meaning.{Meaning, IsMeaning};
@@ -8,15 +9,17 @@ ghost use Rattle.case_model.specs.Rows.{states, all_points};
 ghost use Rattle.envelope.specs.Folds.{spans_of, steps_of, Stands, IsSameFold};
 ghost use Rattle.envelope.specs.Notings.{nothing};
 ghost use Rattle.envelope.specs.Rows.{rows_noted};
-ghost use Rattle.row_steps.specs.Stepping.{HasPlaces, HasEnds, all_joints};
+ghost use Rattle.case_model.specs.Joints.{all_joints};
+ghost use Rattle.row_steps.specs.Stepping.{HasPlaces, HasEnds};
 
 use crate::fault::{least_bad, least_if};
-use crate::joints::{PipeJoints, find_joints};
 use crate::noting::note_row;
 use crate::ranges::keeps_range;
 use crate::start::{room_for_ends, room_for_points, start_points, start_states};
-use crate::step::step_row;
-use case_model::{Law, List, MOST_ENDS, Mesh, NodeState, Point, accepted_cases_are_kept};
+use crate::step::{MeshedLaw, step_row};
+use case_model::{
+    Law, List, MOST_ENDS, Mesh, NodeState, Point, accepted_cases_are_kept, find_joints,
+};
 use envelope::{Fold, numbers_tell_places, stands_for_equal_maps};
 use std::alloc::{AllocError, Global};
 use std::mem;
@@ -49,56 +52,57 @@ pub fn compute<L: Law>(
     let old = start_points(alloc, law, mesh)?;
     let given = room_for_ends(alloc, mesh)?;
     let new = room_for_points(alloc, mesh)?;
-    Ok(run_steps(law, mesh, &joints, fold, own, old, given, new))
+    let meshed = MeshedLaw {
+        law,
+        mesh,
+        joints: &joints,
+    };
+    Ok(run_steps(&meshed, fold, own, old, given, new))
 }
 
 /// Steps from the initial row, in `own` and `old`, to the fold's last step, or to the first row
 /// with a Bad place. Takes no memory: `given` and `new` are room for what a step makes.
 fn run_steps<L: Law>(
-    law: &L,
-    mesh: &Mesh,
-    joints: &[PipeJoints],
+    meshed: &MeshedLaw<L>,
     fold: &mut Fold,
     mut own: Vec<NodeState>,
     mut old: Vec<List<Point>>,
     mut given: Vec<List<Point>>,
     mut new: Vec<List<Point>>,
 ) -> Option<(u64, u64)>
-    requires mesh { mesh.now ≡ (L.meaning law.now).mesh }
-    requires range { IsMeaning (L.meaning law.now) }
-    requires good { IsMesh (L.meaning law.now).mesh }
-    requires numbered { IsNumbered (L.meaning law.now).mesh }
-    requires ends { (k : ℕ) → k < length (L.meaning law.now).mesh.ends →
-        length (ends_of (L.meaning law.now).mesh k) ≤ MOST_ENDS }
-    requires few { length (L.meaning law.now).mesh.ends < 2 ^ 32 }
-    requires few_pipes { length (L.meaning law.now).mesh.pipes < 2 ^ 32 }
-    requires places { places_before (L.meaning law.now).mesh (length (L.meaning law.now).mesh.pipes)
-        < 2 ^ 64 }
+    requires mesh { meshed.now.mesh.now ≡ (L.meaning meshed.now.law.now).mesh }
+    requires range { IsMeaning (L.meaning meshed.now.law.now) }
+    requires good { IsMesh (L.meaning meshed.now.law.now).mesh }
+    requires numbered { IsNumbered (L.meaning meshed.now.law.now).mesh }
+    requires ends { (k : ℕ) → k < length (L.meaning meshed.now.law.now).mesh.ends →
+        length (ends_of (L.meaning meshed.now.law.now).mesh k) ≤ MOST_ENDS }
+    requires few { length (L.meaning meshed.now.law.now).mesh.ends < 2 ^ 32 }
+    requires few_pipes { length (L.meaning meshed.now.law.now).mesh.pipes < 2 ^ 32 }
+    requires places { places_before (L.meaning meshed.now.law.now).mesh
+        (length (L.meaning meshed.now.law.now).mesh.pipes) < 2 ^ 64 }
     requires room { steps_of fold.old < 2 ^ 63 }
-    requires spans { spans_of fold.old ≡ (0, (L.meaning law.now).mesh.places) ∷ [] }
+    requires spans { spans_of fold.old ≡ (0, (L.meaning meshed.now.law.now).mesh.places) ∷ [] }
     requires fresh { Stands fold.old nothing }
-    requires joints { joints.now ≡ all_joints (L.meaning law.now).mesh }
-    requires own { own.items ≡ states (L.meaning law.now) 0 }
-    requires old { old.items ≡ all_points (L.meaning law.now) 0 }
-    requires given { HasEnds (L.meaning law.now).mesh given.items }
-    requires new { HasPlaces (L.meaning law.now).mesh new.items }
-    ensures fault { result ≡ first_fault (L.meaning law.now) (steps_of fold.old) }
-    ensures stands { result ≡ None → Stands fold.new (rows_noted (L.meaning law.now)) }
+    requires joints { meshed.now.joints.now ≡ all_joints (L.meaning meshed.now.law.now).mesh }
+    requires own { own.items ≡ states (L.meaning meshed.now.law.now) 0 }
+    requires old { old.items ≡ all_points (L.meaning meshed.now.law.now) 0 }
+    requires given { HasEnds (L.meaning meshed.now.law.now).mesh given.items }
+    requires new { HasPlaces (L.meaning meshed.now.law.now).mesh new.items }
+    ensures fault { result ≡ first_fault (L.meaning meshed.now.law.now) (steps_of fold.old) }
+    ensures stands { result ≡ None → Stands fold.new (rows_noted (L.meaning meshed.now.law.now)) }
     ensures same { IsSameFold fold.old fold.new }
 {
     numbers_tell_places();
     stands_for_equal_maps();
     let last = fold.steps();
-    note_row(mesh, 0, &own, &old, fold);
+    note_row(meshed.mesh, 0, &own, &old, fold);
     if let Some(place) = least_bad(&own, &old) {
         return Some((0, place));
     }
     for step in 0..last {
-        let bad = step_row(
-            law, mesh, joints, step, &mut own, &old, &mut given, &mut new,
-        );
+        let bad = step_row(meshed, step, &mut own, &old, &mut given, &mut new);
         mem::swap(&mut old, &mut new);
-        note_row(mesh, step + 1, &own, &old, fold);
+        note_row(meshed.mesh, step + 1, &own, &old, fold);
         if let Some(place) = least_if(bad, &own, &old) {
             return Some((step + 1, place));
         }

@@ -1,16 +1,33 @@
 //! One step of a row: the states of the nodes, and the points of the pipes.
-ghost use Rattle.std.specs.Prelude.{◌≡◌, ℕ, ◌+◌, ◌^◌, ◌<◌, ◌≤◌, true, false, length, map, slice_index_or, []};
+ghost use Rattle.std.specs.Prelude.{◌≡◌, ℕ, ◌+◌, ◌^◌, ◌<◌, ◌≤◌, true, false, length, map};
+ghost use Rattle.std.specs.Prelude.{slice_index_or, []};
 ghost use Rattle.std.specs.List.{AllByRecursion, list_any};
 ghost use Rattle.case_model.specs.Meaning.{Meaning, IsMeaning};
 ghost use Rattle.case_model.specs.Mesh.{IsMesh, reaches as reaches_of, ends_of};
 ghost use Rattle.case_model.specs.Places.{is_bad as bad_point, is_bad_state as bad_state};
 ghost use Rattle.case_model.specs.declared.points.Point.TheVariants.{Bad};
-ghost use Rattle.case_model.specs.Rows.{row, points, states, all_points, all_ends, node_ends, end_point};
-ghost use Rattle.row_steps.specs.Stepping.{HasPlaces, HasEnds, all_joints, beside as beside_in, has_bad};
+ghost use Rattle.case_model.specs.Rows.{row, points, states, all_points, all_ends, node_ends};
+ghost use Rattle.case_model.specs.Rows.{end_point};
+ghost use Rattle.case_model.specs.Joints.{all_joints};
+ghost use Rattle.row_steps.specs.Stepping.{HasPlaces, HasEnds, beside as beside_in, has_bad};
 
 use crate::fault::{has_bad_point, is_bad_state};
-use crate::joints::{Joint, PipeJoints};
-use case_model::{End, Law, List, MOST_ENDS, Mesh, NodeState, Point};
+use case_model::{End, Joint, Law, List, MOST_ENDS, Mesh, NodeState, PipeJoints, Point};
+
+/// A law, its mesh, and where the ends of the mesh's pipes stand.
+#[derive(Clone, Copy)]
+pub(crate) struct MeshedLaw<'a, L> {
+    pub(crate) law: &'a L,
+    pub(crate) mesh: &'a Mesh,
+    pub(crate) joints: &'a [PipeJoints],
+}
+
+/// A node at a step.
+#[derive(Clone, Copy)]
+struct NodeStep {
+    node: u32,
+    step: u64,
+}
 
 /// The points that the nodes give to both ends of a pipe.
 #[derive(Clone, Copy)]
@@ -22,37 +39,35 @@ struct PipeEnds {
 /// The next row: its states over those of `step` in `own`, its points in `new`. Tells whether a
 /// place of it is Bad. `given` receives the points that the nodes give their ends.
 pub(crate) fn step_row<L: Law>(
-    law: &L,
-    mesh: &Mesh,
-    joints: &[PipeJoints],
+    meshed: &MeshedLaw<L>,
     step: u64,
     own: &mut [NodeState],
     old: &[List<Point>],
     given: &mut [List<Point>],
     new: &mut [List<Point>],
 ) -> bool
-    requires mesh { mesh.now ≡ (L.meaning law.now).mesh }
-    requires range { IsMeaning (L.meaning law.now) }
-    requires good { IsMesh (L.meaning law.now).mesh }
-    requires near { (k : ℕ) → k < length (L.meaning law.now).mesh.ends →
-        length (ends_of (L.meaning law.now).mesh k) ≤ MOST_ENDS }
-    requires few { length (L.meaning law.now).mesh.ends < 2 ^ 32 }
-    requires few_pipes { length (L.meaning law.now).mesh.pipes < 2 ^ 32 }
+    requires mesh { meshed.now.mesh.now ≡ (L.meaning meshed.now.law.now).mesh }
+    requires range { IsMeaning (L.meaning meshed.now.law.now) }
+    requires good { IsMesh (L.meaning meshed.now.law.now).mesh }
+    requires near { (k : ℕ) → k < length (L.meaning meshed.now.law.now).mesh.ends →
+        length (ends_of (L.meaning meshed.now.law.now).mesh k) ≤ MOST_ENDS }
+    requires few { length (L.meaning meshed.now.law.now).mesh.ends < 2 ^ 32 }
+    requires few_pipes { length (L.meaning meshed.now.law.now).mesh.pipes < 2 ^ 32 }
     requires room { step + 1 < 2 ^ 64 }
-    requires joints { joints.now ≡ all_joints (L.meaning law.now).mesh }
-    requires own { own.old ≡ states (L.meaning law.now) step }
-    requires old { old.now ≡ all_points (L.meaning law.now) step }
-    requires given { HasEnds (L.meaning law.now).mesh given.old }
-    requires new { HasPlaces (L.meaning law.now).mesh new.old }
-    ensures states { own.new ≡ states (L.meaning law.now) (step + 1) }
-    ensures points { new.new ≡ all_points (L.meaning law.now) (step + 1) }
-    ensures given { HasEnds (L.meaning law.now).mesh given.new }
+    requires joints { meshed.now.joints.now ≡ all_joints (L.meaning meshed.now.law.now).mesh }
+    requires own { own.old ≡ states (L.meaning meshed.now.law.now) step }
+    requires old { old.now ≡ all_points (L.meaning meshed.now.law.now) step }
+    requires given { HasEnds (L.meaning meshed.now.law.now).mesh given.old }
+    requires new { HasPlaces (L.meaning meshed.now.law.now).mesh new.old }
+    ensures states { own.new ≡ states (L.meaning meshed.now.law.now) (step + 1) }
+    ensures points { new.new ≡ all_points (L.meaning meshed.now.law.now) (step + 1) }
+    ensures given { HasEnds (L.meaning meshed.now.law.now).mesh given.new }
     ensures bad { result
-        ≡ has_bad (states (L.meaning law.now) (step + 1))
-        (all_points (L.meaning law.now) (step + 1)) }
+        ≡ has_bad (states (L.meaning meshed.now.law.now) (step + 1))
+        (all_points (L.meaning meshed.now.law.now) (step + 1)) }
 {
-    let bad = step_nodes(law, mesh, step, own, old, given);
-    let bad_line = step_pipes(law, joints, step, old, given, new);
+    let bad = step_nodes(meshed.law, meshed.mesh, step, own, old, given);
+    let bad_line = step_pipes(meshed.law, meshed.joints, step, old, given, new);
     bad | bad_line
 }
 
@@ -82,15 +97,11 @@ fn step_nodes<L: Law>(
     let mut bad = false;
     for (node, ends) in mesh.ends.as_slice().iter().enumerate() {
         let line = given[node].as_mut_slice();
-        let state = step_node(
-            law,
-            node as u32,
+        let at = NodeStep {
+            node: node as u32,
             step,
-            &own[node],
-            old,
-            ends.as_slice(),
-            line,
-        );
+        };
+        let state = step_node(law, at, &own[node], old, ends.as_slice(), line);
         own[node] = state;
         bad |= is_bad_state(&state);
     }
@@ -99,8 +110,7 @@ fn step_nodes<L: Law>(
 
 fn step_node<L: Law>(
     law: &L,
-    node: u32,
-    step: u64,
+    at: NodeStep,
     own: &NodeState,
     old: &[List<Point>],
     ends: &[End],
@@ -108,21 +118,21 @@ fn step_node<L: Law>(
 ) -> NodeState
     requires range { IsMeaning (L.meaning law.now) }
     requires good { IsMesh (L.meaning law.now).mesh }
-    requires on_mesh { node < length (L.meaning law.now).mesh.ends }
+    requires on_mesh { at.node < length (L.meaning law.now).mesh.ends }
     requires near { length ends.now ≤ MOST_ENDS }
-    requires room { step + 1 < 2 ^ 64 }
-    requires own { own.now ≡ (row (L.meaning law.now) step).state node }
-    requires old { old.now ≡ all_points (L.meaning law.now) step }
-    requires ends { ends.now ≡ ends_of (L.meaning law.now).mesh node }
+    requires room { at.step + 1 < 2 ^ 64 }
+    requires own { own.now ≡ (row (L.meaning law.now) at.step).state at.node }
+    requires old { old.now ≡ all_points (L.meaning law.now) at.step }
+    requires ends { ends.now ≡ ends_of (L.meaning law.now).mesh at.node }
     requires given { length given.old ≡ length ends.now }
-    ensures state { result ≡ (row (L.meaning law.now) (step + 1)).state node }
+    ensures state { result ≡ (row (L.meaning law.now) (at.step + 1)).state at.node }
     ensures given { given.new
-        ≡ node_ends (L.meaning law.now) (step + 1) (row (L.meaning law.now) step) node }
+        ≡ node_ends (L.meaning law.now) (at.step + 1) (row (L.meaning law.now) at.step) at.node }
 {
     let mut room = [Point::Bad; MOST_ENDS];
     let near = &mut room[..ends.len()];
     gather(old, ends, near);
-    law.node(node, step + 1, own, near, given)
+    law.node(at.node, at.step + 1, own, near, given)
 }
 
 /// Writes the point beside each end into `near`.

@@ -1,5 +1,6 @@
 -- The net and the state of what a plan counts.
-use Rattle.std.specs.Prelude.{◌≡◌, ℕ, ◌<◌, ◌^◌, Bool, false, List, [], length, slice_index, slice_index_or}
+use Rattle.std.specs.Prelude.{◌≡◌, ℕ, ◌<◌, ◌^◌, Bool, false, List, [], length, slice_index}
+use Rattle.std.specs.Prelude.{slice_index_or}
 use Rattle.schedule.specs.declared.links.Link.{Link}
 use Rattle.schedule.specs.Nets.{Net, needed, written}
 use Rattle.schedule.specs.States.{State}

@@ -1,5 +1,6 @@
 -- Strands and their sides, and the blocks that their regions need and write.
-use Rattle.std.specs.Prelude.{◌≡◌, ℕ, ◌+◌, ◌-◌, ◌<◌, ◌≤◌, min, nat_lt, if◌then◌else◌, Bool, true, false, Option, Some, None}
+use Rattle.std.specs.Prelude.{◌≡◌, ℕ, ◌+◌, ◌-◌, ◌<◌, ◌≤◌, min, nat_lt, if◌then◌else◌, Bool, true}
+use Rattle.std.specs.Prelude.{false, Option, Some, None}
 use Rattle.regions.specs.Needs.{needs_of}
 
 -- strands by number, each a section or a station; the neighbour of a strand at an index of its

@@ -46,14 +46,16 @@ fn regions(section: bool, windows: u64) -> u64
 }
 
 impl Counts {
-    ghost use Rattle.std.specs.Prelude.{ℕ, ◌+◌, ◌*◌, ◌/◌, ◌≤◌, ◌↔◌, IsTrue, MatchOption, length, List as Items, Bool, IfOk};
+    ghost use Rattle.std.specs.Prelude.{ℕ, ◌+◌, ◌*◌, ◌/◌, ◌≤◌, ◌↔◌, IsTrue, MatchOption, length};
+    ghost use Rattle.std.specs.Prelude.{List as Items, Bool, IfOk};
     ghost use Rattle.regions.specs.LaidOut.{IsLaidOut};
     ghost use Rattle.regions.specs.Regions.{IsWhole};
     ghost use Rattle.regions.specs.Sides.{AreMutual};
     ghost use Rattle.schedule.specs.LayoutNets.{layout_net};
     ghost use Rattle.schedule.specs.Nets.{HasRegion, IsSameNet, needed as needed_blocks};
     ghost use Rattle.schedule.specs.States.{IsLawful, MayEnter, MayLeave, after, start};
-    ghost use Rattle.schedule.specs.Order.{turn_of, turn_count, AreLeftOf, AreLeftBefore, IsUnleft, IsPlaced};
+    ghost use Rattle.schedule.specs.Order.{turn_of, turn_count, AreLeftOf, AreLeftBefore, IsUnleft};
+    ghost use Rattle.schedule.specs.Order.{IsPlaced};
     ghost use Rattle.schedule.specs.Countings.{net_in, state_in, IsAt};
 
     /// The counts of a layout, all 0.

@@ -8,7 +8,8 @@ ghost use Rattle.schedule.specs.LayoutNets.{layout_net};
 ghost use Rattle.schedule.specs.declared.events.Event.{Event};
 ghost use Rattle.schedule.specs.Nets.{Net, IsNet};
 ghost use Rattle.schedule.specs.States.{State, run, AreLawful};
-ghost use Rattle.schedule.specs.Rules.{KeepsOrder, KeepsSlots, KeepsCounts, IsAlwaysReady, IsNeverStuck, StaysLawful};
+ghost use Rattle.schedule.specs.Rules.{KeepsOrder, KeepsSlots, KeepsCounts, IsAlwaysReady};
+ghost use Rattle.schedule.specs.Rules.{IsNeverStuck, StaysLawful};
 
 /// Each strand's regions are entered, and left, each once at most and in order.
 pub fn lists_keep_order()

@@ -15,7 +15,8 @@ pub(crate) struct Place {
 
 /// The first place, from this on, whose region isn't left; past the last turn where all are left.
 pub(crate) fn next_unleft(counts: &Counts, from: Place) -> Place
-    requires before { AreLeftBefore (net_in counts.now) (state_in counts.now) from.turn from.strand }
+    requires before { AreLeftBefore (net_in counts.now)
+        (state_in counts.now) from.turn from.strand }
     requires most { from.turn ≤ turn_count (net_in counts.now) }
     ensures { IsPlaced (net_in counts.now) (state_in counts.now) result.turn result.strand }
 {

@@ -21,7 +21,8 @@ pub struct Plan {
 }
 
 impl Plan {
-    ghost use Rattle.std.specs.Prelude.{◌≡◌, ◌<◌, ◌≤◌, ◌⊎◌, ◌↔◌, IsTrue, IfSome, IfNone, IfOk, None};
+    ghost use Rattle.std.specs.Prelude.{◌≡◌, ◌<◌, ◌≤◌, ◌⊎◌, ◌↔◌, IsTrue, IfSome, IfNone, IfOk};
+    ghost use Rattle.std.specs.Prelude.{None};
     ghost use Rattle.regions.specs.LaidOut.{IsLaidOut};
     ghost use Rattle.schedule.specs.LayoutNets.{layout_net};
     ghost use Rattle.schedule.specs.Nets.{IsNet, IsSameNet};

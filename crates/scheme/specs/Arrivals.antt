@@ -1,6 +1,7 @@
--- What arrives at a node along its pipe ends. After Wylie and Streeter, Fluid Transients in Systems:
--- boundary conditions.
-use Rattle.std.specs.Prelude.{◌<◌, ℕ, ℤ, Option, Some, None, if◌then◌else◌, List, [], ◌∷◌, length, slice_index_or}
+-- What arrives at a node along its pipe ends. After Wylie and Streeter, Fluid Transients in
+-- Systems: boundary conditions.
+use Rattle.std.specs.Prelude.{◌<◌, ℕ, ℤ, Option, Some, None, if◌then◌else◌, List, [], ◌∷◌, length}
+use Rattle.std.specs.Prelude.{slice_index_or}
 use Rattle.case_model.specs.declared.cases.Friction.{Friction}
 use Rattle.case_model.specs.declared.points.Point.{Point}
 use Rattle.case_model.specs.declared.meshes.Arrival.{Arrival}

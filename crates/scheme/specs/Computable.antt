@@ -1,9 +1,10 @@
--- What the law of a case relies on: a case within its limits, its mesh with coefficients within theirs,
--- and ends that suit each kind of node.
+-- What the law of a case relies on: a case within its limits, its mesh with coefficients within
+-- theirs, and ends that suit each kind of node.
 use Rattle.std.specs.Prelude.{◌≡◌, ◌<◌, ◌≤◌, ℕ, pos, ◌≤ℤ◌, IsTrue, List, length}
 use Rattle.case_model.specs.declared.cases.Case.{Case}
 use Rattle.case_model.specs.declared.cases.NodeKind.{NodeKind}
-use Rattle.case_model.specs.declared.cases.NodeKind.TheVariants.{Reservoir, Junction, Discharge, Inline, Pump, Tank, Vessel}
+use Rattle.case_model.specs.declared.cases.NodeKind.TheVariants.{Reservoir, Junction, Discharge}
+use Rattle.case_model.specs.declared.cases.NodeKind.TheVariants.{Inline, Pump, Tank, Vessel}
 use Rattle.case_model.specs.declared.meshes.End.{End}
 use Rattle.case_model.specs.declared.meshes.Mesh.{Mesh}
 use Rattle.case_model.specs.Limits.{IsRead}
@@ -38,5 +39,6 @@ pub record IsComputable (case : Case) (mesh : Mesh) : Type 0 where
   pub low : (p : ℕ) → p < length mesh.pipes → pos 100_000 ≤ℤ impedance mesh p
   pub high : (p : ℕ) → p < length mesh.pipes → impedance mesh p ≤ℤ pos 10_000_000_000_000
   pub some_friction : (p : ℕ) → p < length mesh.pipes → pos 0 ≤ℤ resistance mesh p
-  pub most_friction : (p : ℕ) → p < length mesh.pipes → resistance mesh p ≤ℤ pos 100_000_000_000_000_000_000
+  pub most_friction : (p : ℕ) → p < length mesh.pipes
+      → resistance mesh p ≤ℤ pos 100_000_000_000_000_000_000
   pub few : (p : ℕ) → p < length mesh.pipes → reaches mesh p ≤ 65_536

@@ -4,7 +4,8 @@ use Rattle.std.specs.List.{position_or_len}
 use Rattle.case_model.specs.declared.points.Point.{Point}
 use Rattle.case_model.specs.declared.points.Point.TheVariants.{Bad}
 use Rattle.case_model.specs.declared.states.NodeState.{NodeState}
-use Rattle.case_model.specs.declared.states.NodeState.TheVariants.{Good as GoodState, Bad as BadState}
+use Rattle.case_model.specs.declared.states.NodeState.TheVariants.{Good as GoodState}
+use Rattle.case_model.specs.declared.states.NodeState.TheVariants.{Bad as BadState}
 use Rattle.case_model.specs.declared.meshes.Arrival.{Arrival}
 use Rattle.case_model.specs.declared.meshes.End.{End}
 use Rattle.case_model.specs.declared.meshes.Through.{Through}
@@ -34,7 +35,8 @@ end_points state (e ∷ ends) (q ∷ flows) = end_point state e q ∷ end_points
 abbrev pub bad_points : List End → List Point
 bad_points ends = map (λ e. Bad) ends
 
--- a node between two pipes: side 1 is the pipe whose last place is there, side 2 the pipe whose place 0 is
+-- a node between two pipes: side 1 is the pipe whose last place is there, side 2 the pipe whose
+-- place 0 is
 abbrev pub no_arrival : Arrival
 no_arrival = record { c = pos 0; b = pos 0 }
 
@@ -42,7 +44,8 @@ abbrev pub side_one : List End → List Arrival → Arrival
 side_one ends arrivals = slice_index_or arrivals (position_or_len (λ e. e.at_last) ends) no_arrival
 
 abbrev pub side_two : List End → List Arrival → Arrival
-side_two ends arrivals = slice_index_or arrivals (position_or_len (λ e. not e.at_last) ends) no_arrival
+side_two ends arrivals =
+    slice_index_or arrivals (position_or_len (λ e. not e.at_last) ends) no_arrival
 
 -- its state, with the head of side 1
 abbrev pub through_state : Through → NodeState

@@ -15,7 +15,8 @@ use Rattle.scheme.specs.Starts.{start_point, start_node}
 -- place i of pipe p one step later, with the pipe's coefficients and the vapour head of the place
 unfoldable pub inner_law : Case → Mesh → ℕ → ℕ → Point → Point → Point → Point
 inner_law case mesh p i left own right =
-    inner_point case.friction (rule_at case (vapour_head case mesh p i)) (impedance mesh p) (resistance mesh p) left own right
+    inner_point case.friction (rule_at case (vapour_head case mesh p i))
+    (impedance mesh p) (resistance mesh p) left own right
 
 unfoldable pub meaning_of : Case → Mesh → Meaning
 meaning_of case mesh = record {

@@ -1,13 +1,16 @@
--- Why a node is Bad: something that it reads is, a characteristic that it reads is out of range, a valve is
--- over its limit, a vessel's volume is outside its gas table, or a head, flow or volume of its own leaves
--- its range. Its growth is no cause.
-use Rattle.std.specs.Prelude.{◌≡◌, ◌<◌, ◌≤◌, ◌≤ℤ◌, ℕ, ℤ, pos, ◌+ℤ◌, ◌-ℤ◌, int_le, int_lt, unsigned_abs, ◌==◌, ◌&&◌, true, false, Option, Some, None, if◌then◌else◌, List, [], ◌∷◌, length}
+-- Why a node is Bad: something that it reads is, a characteristic that it reads is out of range, a
+-- valve is over its limit, a vessel's volume is outside its gas table, or a head, flow or volume of
+-- its own leaves its range. Its growth is no cause.
+use Rattle.std.specs.Prelude.{◌≡◌, ◌<◌, ◌≤◌, ◌≤ℤ◌, ℕ, ℤ, pos, ◌+ℤ◌, ◌-ℤ◌, int_le, int_lt}
+use Rattle.std.specs.Prelude.{unsigned_abs, ◌==◌, ◌&&◌, true, false, Option, Some, None}
+use Rattle.std.specs.Prelude.{if◌then◌else◌, List, [], ◌∷◌, length}
 use Rattle.std.specs.Int.{int_max}
 use Rattle.std.specs.List.{list_all}
 use Rattle.fixed_num.specs.Tables.{interp}
 use Rattle.case_model.specs.declared.cases.Case.{Case}
 use Rattle.case_model.specs.declared.cases.NodeKind.{NodeKind}
-use Rattle.case_model.specs.declared.cases.NodeKind.TheVariants.{Reservoir, Junction, Discharge, Inline, Pump, Tank, Vessel}
+use Rattle.case_model.specs.declared.cases.NodeKind.TheVariants.{Reservoir, Junction, Discharge}
+use Rattle.case_model.specs.declared.cases.NodeKind.TheVariants.{Inline, Pump, Tank, Vessel}
 use Rattle.case_model.specs.declared.meshes.Arrival.{Arrival}
 use Rattle.case_model.specs.declared.meshes.CavityRule.{CavityRule}
 use Rattle.case_model.specs.declared.meshes.End.{End}
@@ -49,7 +52,8 @@ AtLevel l arrivals = IsLevel l.0 l.1 (inflows l.0 arrivals)
 
 -- the head and the volume of a junction, whatever their size
 abbrev pub junction_closed : ℤ → ℤ → ℤ → ℤ × ℤ
-junction_closed hv head volume = if int_lt (pos 0) volume then (hv, volume) else (int_max head hv, pos 0)
+junction_closed hv head volume =
+    if int_lt (pos 0) volume then (hv, volume) else (int_max head hv, pos 0)
 
 abbrev pub junction_level : CavityRule → ℤ → ℤ → ℤ → List Arrival → ℤ × ℤ
 junction_level rule demand volume growth arrivals =
@@ -71,7 +75,8 @@ discharge_level rule valve opening q head volume growth a =
     if (unsigned_abs volume == 0) && int_le rule.hv head
     then (head, pos 0, q)
     else discharge_closed rule.hv q head
-    (cavity_volume rule volume growth (discharge_growth rule.hv valve opening a)) (flow_in rule.hv a)
+    (cavity_volume rule volume growth (discharge_growth rule.hv valve opening a))
+    (flow_in rule.hv a)
 
 -- a flow through a node between two pipes, and the heads on both sides, are in range
 pub record IsPassing (one two : Arrival) (q : ℤ) : Type 0 where
@@ -81,13 +86,15 @@ pub record IsPassing (one two : Arrival) (q : ℤ) : Type 0 where
 
 -- what each kind of node needs to be Good
 abbrev pub JunctionNeeds : CavityRule → ℤ → NodeState → List Arrival → Type 0
-JunctionNeeds rule demand (Good h v g) arrivals = AtLevel (junction_level rule demand v g arrivals) arrivals
+JunctionNeeds rule demand (Good h v g) arrivals =
+    AtLevel (junction_level rule demand v g arrivals) arrivals
 JunctionNeeds rule demand Bad arrivals = ⊥
 
 abbrev pub DischargeNeeds : CavityRule → Valve → ℤ → NodeState → Arrival → Type 0
 DischargeNeeds rule valve opening (Good h v g) a =
     (is_over valve.q0 valve.h0 a.b ≡ false)
-    × IsEnd (discharge_level rule valve opening (liquid_flow valve opening a) (liquid_head a (liquid_flow valve opening a)) v g a)
+    × IsEnd (discharge_level rule valve opening (liquid_flow valve opening a)
+    (liquid_head a (liquid_flow valve opening a)) v g a)
 DischargeNeeds rule valve opening Bad a = ⊥
 
 abbrev pub InlineNeeds : ℤ → ℤ → ℤ → Arrival → Arrival → Type 0
@@ -110,21 +117,27 @@ VesselNeeds dt gas (Good h v g) arrivals =
 VesselNeeds dt gas Bad arrivals = ⊥
 
 abbrev pub KindNeeds : Case → ℤ → NodeKind → ℕ → NodeState → List End → List Arrival → Type 0
-KindNeeds case hv (Reservoir head) step own ends arrivals = AtLevel (value_at case head step, pos 0) arrivals
+KindNeeds case hv (Reservoir head) step own ends arrivals =
+    AtLevel (value_at case head step, pos 0) arrivals
 KindNeeds case hv (Junction demand start) step own ends arrivals =
     JunctionNeeds (rule_at case hv) (value_at case demand step) own arrivals
 KindNeeds case hv (Discharge q0 h0 outlet opening start) step own ends arrivals =
-    DischargeNeeds (rule_at case hv) (valve_of q0 h0 outlet) (value_at case opening step) own (sole arrivals)
+    DischargeNeeds (rule_at case hv) (valve_of q0 h0 outlet) (value_at case opening step) own
+    (sole arrivals)
 KindNeeds case hv (Inline q0 h0 opening start start2) step own ends arrivals =
     InlineNeeds q0 h0 (value_at case opening step) (side_one ends arrivals) (side_two ends arrivals)
 KindNeeds case hv (Pump curve speed start start2) step own ends arrivals =
-    PumpNeeds (table_at case curve).points (value_at case speed step) (side_one ends arrivals) (side_two ends arrivals)
+    PumpNeeds (table_at case curve).points (value_at case speed step) (side_one ends arrivals)
+    (side_two ends arrivals)
 KindNeeds case hv (Tank area start) step own ends arrivals = TankNeeds case.dt area own arrivals
-KindNeeds case hv (Vessel gas volume) step own ends arrivals = VesselNeeds case.dt (table_at case gas).points own arrivals
+KindNeeds case hv (Vessel gas volume) step own ends arrivals =
+    VesselNeeds case.dt (table_at case gas).points own arrivals
 
 -- and the characteristics along all its ends
-abbrev pub GatheredNeeds : Case → ℤ → NodeKind → ℕ → NodeState → List End → Option (List Arrival) → Type 0
-GatheredNeeds case hv kind step own ends (Some arrivals) = KindNeeds case hv kind step own ends arrivals
+abbrev pub GatheredNeeds : Case → ℤ → NodeKind → ℕ → NodeState → List End → Option (List Arrival)
+    → Type 0
+GatheredNeeds case hv kind step own ends (Some arrivals) =
+    KindNeeds case hv kind step own ends arrivals
 GatheredNeeds case hv kind step own ends None = ⊥
 
 -- what node k needs at a step
@@ -136,5 +149,8 @@ NodeNeeds case mesh k step own near =
 -- the range rule of nodes: Good exactly where they have what they need
 abbrev pub NodesHaveCauses : Type 0
 NodesHaveCauses =
-    (case : Case) (mesh : Mesh) → IsAccepted case mesh → (k step : ℕ) (own : NodeState) (near : List Point) →
-    k < length mesh.ends → IsGoodExactly (is_bad_state (node_law case mesh k step own near).0) (NodeNeeds case mesh k step own near)
+    (case : Case) (mesh : Mesh) → IsAccepted case mesh
+    → (k step : ℕ) (own : NodeState) (near : List Point) →
+    k < length mesh.ends
+    → IsGoodExactly (is_bad_state (node_law case mesh k step own near).0)
+    (NodeNeeds case mesh k step own near)

@@ -5,16 +5,20 @@ use Rattle.case_model.specs.declared.cases.Case.{Case}
 use Rattle.case_model.specs.declared.cases.Node.{Node}
 use Rattle.case_model.specs.declared.cases.Table.{Table}
 use Rattle.case_model.specs.declared.cases.TableKind.{TableKind}
-use Rattle.case_model.specs.declared.cases.TableKind.TheVariants.{Heads, Flows, Openings, Speeds, Curve, Gas}
+use Rattle.case_model.specs.declared.cases.TableKind.TheVariants.{Heads, Flows, Openings, Speeds}
+use Rattle.case_model.specs.declared.cases.TableKind.TheVariants.{Curve, Gas}
 use Rattle.case_model.specs.declared.cases.Value.{Value}
 use Rattle.case_model.specs.declared.cases.Value.TheVariants.{Fixed, ByTable}
 use Rattle.case_model.specs.declared.cases.NodeKind.{NodeKind}
-use Rattle.case_model.specs.declared.cases.NodeKind.TheVariants.{Reservoir, Junction, Discharge, Inline, Pump, Tank, Vessel}
+use Rattle.case_model.specs.declared.cases.NodeKind.TheVariants.{Reservoir, Junction, Discharge}
+use Rattle.case_model.specs.declared.cases.NodeKind.TheVariants.{Inline, Pump, Tank, Vessel}
 use Rattle.case_model.specs.declared.cases.ProbeAt.{ProbeAt}
 use Rattle.case_model.specs.declared.cases.ProbeAt.TheVariants.{OnPipe, OnNode}
 use Rattle.case_model.specs.declared.meshes.End.{End}
 use Rattle.case_model.specs.declared.meshes.Mesh.{Mesh}
-use Rattle.case_model.specs.Limits.{IsHead, IsFlow, IsWithin, IsEntry, IsInOrder, IsTable, IsTableOf, IsValue, IsKind, IsNode, IsSpot, IsVersion, IsRead}
+use Rattle.case_model.specs.Limits.{IsOpening}
+use Rattle.case_model.specs.Limits.{IsHead, IsFlow, IsWithin, IsEntry, IsInOrder, IsTable}
+use Rattle.case_model.specs.Limits.{IsTableOf, IsValue, IsKind, IsNode, IsSpot, IsVersion, IsRead}
 use Rattle.scheme.specs.Computable.{Suits, HasEnds, IsComputable}
 
 IsWithin-prop : (low high x : ℤ) → IsProp (IsWithin low high x)
@@ -42,7 +46,8 @@ IsTable-prop t = Prim.hlevel (props, IsEntry-prop, IsInOrder-prop)
 IsTableOf-prop : (kind : TableKind) (tables : List Table) (k : ℕ) → IsProp (IsTableOf kind tables k)
 IsTableOf-prop kind tables k = Prim.hlevel props
 
-IsValue-prop : (P : ℤ → Type 0) → ((x : ℤ) → IsProp (P x)) → (kind : TableKind) (tables : List Table) (v : Value) → IsProp (IsValue P kind tables v)
+IsValue-prop : (P : ℤ → Type 0) → ((x : ℤ) → IsProp (P x))
+    → (kind : TableKind) (tables : List Table) (v : Value) → IsProp (IsValue P kind tables v)
 IsValue-prop P h kind tables (Fixed x) = h x
 IsValue-prop P h kind tables (ByTable k) = IsTableOf-prop kind tables k
 
@@ -52,15 +57,27 @@ IsHead-prop x = Prim.hlevel props
 IsFlow-prop : (x : ℤ) → IsProp (IsFlow x)
 IsFlow-prop x = Prim.hlevel props
 
+IsOpening-prop : (tables : List Table) (v : Value) → IsProp (IsOpening tables v)
+IsOpening-prop tables v =
+    let within = IsWithin-prop (pos 0) (pos 1_000_000) in
+    IsValue-prop (IsWithin (pos 0) (pos 1_000_000)) within Openings tables v
+
+IsSpeed-prop : (tables : List Table) (v : Value)
+    → IsProp (IsValue (IsWithin (pos 0) (pos 2_000_000)) Speeds tables v)
+IsSpeed-prop tables v =
+    let within = IsWithin-prop (pos 0) (pos 2_000_000) in
+    IsValue-prop (IsWithin (pos 0) (pos 2_000_000)) within Speeds tables v
+
 IsKind-prop : (tables : List Table) (kind : NodeKind) → IsProp (IsKind tables kind)
 IsKind-prop tables (Reservoir head) = IsValue-prop IsHead IsHead-prop Heads tables head
-IsKind-prop tables (Junction demand start) = let v = IsValue-prop IsFlow IsFlow-prop Flows tables demand in Prim.hlevel (props, v)
+IsKind-prop tables (Junction demand start) =
+    let v = IsValue-prop IsFlow IsFlow-prop Flows tables demand in Prim.hlevel (props, v)
 IsKind-prop tables (Discharge q0 h0 outlet opening start) =
-    let v = IsValue-prop (IsWithin (pos 0) (pos 1_000_000)) (IsWithin-prop (pos 0) (pos 1_000_000)) Openings tables opening in Prim.hlevel (props, v)
+    let v = IsOpening-prop tables opening in Prim.hlevel (props, v)
 IsKind-prop tables (Inline q0 h0 opening start start2) =
-    let v = IsValue-prop (IsWithin (pos 0) (pos 1_000_000)) (IsWithin-prop (pos 0) (pos 1_000_000)) Openings tables opening in Prim.hlevel (props, v)
+    let v = IsOpening-prop tables opening in Prim.hlevel (props, v)
 IsKind-prop tables (Pump curve speed start start2) =
-    let v = IsValue-prop (IsWithin (pos 0) (pos 2_000_000)) (IsWithin-prop (pos 0) (pos 2_000_000)) Speeds tables speed in Prim.hlevel (props, v)
+    let v = IsSpeed-prop tables speed in Prim.hlevel (props, v)
 IsKind-prop tables (Tank area start) = Prim.hlevel props
 IsKind-prop tables (Vessel gas volume) = Prim.hlevel props
 

@@ -1,10 +1,12 @@
 -- What stands at step 0: heads by the nodes, flows by the pipes, and no cavity.
-use Rattle.std.specs.Prelude.{ℕ, ℤ, pos, ◌+ℤ◌, ◌-ℤ◌, ◌*ℤ◌, Bool, true, false, if◌then◌else◌, List, [], ◌∷◌}
+use Rattle.std.specs.Prelude.{ℕ, ℤ, pos, ◌+ℤ◌, ◌-ℤ◌, ◌*ℤ◌, Bool, true, false, if◌then◌else◌, List}
+use Rattle.std.specs.Prelude.{[], ◌∷◌}
 use Rattle.fixed_num.specs.Rounding.{rnd}
 use Rattle.fixed_num.specs.Tables.{interp}
 use Rattle.case_model.specs.declared.cases.Case.{Case}
 use Rattle.case_model.specs.declared.cases.NodeKind.{NodeKind}
-use Rattle.case_model.specs.declared.cases.NodeKind.TheVariants.{Reservoir, Junction, Discharge, Inline, Pump, Tank, Vessel}
+use Rattle.case_model.specs.declared.cases.NodeKind.TheVariants.{Reservoir, Junction, Discharge}
+use Rattle.case_model.specs.declared.cases.NodeKind.TheVariants.{Inline, Pump, Tank, Vessel}
 use Rattle.case_model.specs.declared.meshes.End.{End}
 use Rattle.case_model.specs.declared.meshes.Mesh.{Mesh}
 use Rattle.case_model.specs.declared.points.Point.{Point}
@@ -15,8 +17,8 @@ use Rattle.case_model.specs.Range.{state_of}
 use Rattle.scheme.specs.Values.{value_at}
 use Rattle.scheme.specs.Ends.{along, flowing}
 
--- the head of a node at step 0, towards a pipe whose last place is there, or whose place 0 is: a node
--- between two pipes has `start` towards the first and `start2` towards the second
+-- the head of a node at step 0, towards a pipe whose last place is there, or whose place 0 is: a
+-- node between two pipes has `start` towards the first and `start2` towards the second
 unfoldable pub start_head : Case → NodeKind → Bool → ℤ
 start_head case (Reservoir head) at_last = value_at case head 0
 start_head case (Junction demand start) at_last = start
@@ -54,13 +56,17 @@ start_growth case (Vessel gas volume) ends = start_inflow case ends
 -- node k at step 0, with the head of side 1 where it has two
 unfoldable pub start_node : Case → Mesh → ℕ → NodeState
 start_node case mesh k =
-    state_of (start_head case (node_at case k).kind true) (start_volume (node_at case k).kind) (start_growth case (node_at case k).kind (ends_of mesh k))
+    state_of (start_head case (node_at case k).kind true) (start_volume (node_at case k).kind)
+    (start_growth case (node_at case k).kind (ends_of mesh k))
 
 -- the head at place i of n, between the heads at both ends
 unfoldable pub head_between : ℤ → ℤ → ℕ → ℕ → ℤ
 head_between first last i n = first +ℤ rnd ((last -ℤ first) *ℤ pos i) (pos n)
 
--- place i of pipe p at step 0: its head between those of the pipe's nodes towards it, and the pipe's flow
+-- place i of pipe p at step 0: its head between those of the pipe's nodes towards it, and the
+-- pipe's flow
 unfoldable pub start_point : Case → Mesh → ℕ → ℕ → Point
 start_point case mesh p i =
-    flowing (head_between (start_head case (node_at case (pipe_at case p).first).kind false) (start_head case (node_at case (pipe_at case p).last).kind true) i (reaches mesh p)) (pipe_at case p).flow
+    flowing (head_between (start_head case (node_at case (pipe_at case p).first).kind false)
+    (start_head case (node_at case (pipe_at case p).last).kind true) i (reaches mesh p))
+    (pipe_at case p).flow

@@ -1,15 +1,14 @@
 //! What arrives at a node along its pipe ends.
 ghost use Rattle.std.specs.Prelude.{◌≡◌, ◌<◌, length, if◌then◌else◌, IfSome, IsTrue, All};
 ghost use Rattle.case_model.specs.Range.{IsPoint};
-ghost use Rattle.charline.specs.Characteristics.{IsArrival, IsImpedance, IsResistance};
+ghost use Rattle.charline.specs.Characteristics.{IsArrival};
 ghost use Rattle.scheme.specs.Arrivals.{
   HasCoefficients,
-  impedance as impedance_of,
-  resistance as resistance_of,
   arrival_from as arrival_of,
   arrivals_from,
 };
 
+use crate::pipes::{impedance, resistance};
 use case_model::{Arrival, End, Friction, Mesh, Point};
 use charline::{arrive_minus, arrive_plus};
 
@@ -27,7 +26,8 @@ pub(crate) fn gather(
     requires near_in { All IsPoint near.now }
     requires near_each { length near.now ≡ length ends.now }
     requires arrivals_each { length arrivals.old ≡ length ends.now }
-    ensures arrived { arrivals_from friction mesh.now ends.now near.now ≡ (if result then Some arrivals.new else None) }
+    ensures arrived { arrivals_from friction mesh.now ends.now near.now
+        ≡ (if result then Some arrivals.new else None) }
     ensures arrivals_in { IsTrue result → All IsArrival arrivals.new }
 {
     for (i, end) in ends.iter().enumerate() {
@@ -53,24 +53,4 @@ fn arrival_from(friction: Friction, mesh: &Mesh, end: &End, point: &Point) -> Op
     } else {
         arrive_minus(friction, b, r, point)
     }
-}
-
-/// The impedance of a pipe of the mesh, in 1e-6 s/m2.
-pub(crate) fn impedance(mesh: &Mesh, pipe: u32) -> i64
-    requires coefficients { HasCoefficients mesh.now }
-    requires on_mesh { pipe < length mesh.now.pipes }
-    ensures value { result ≡ impedance_of mesh.now pipe }
-    ensures limits { IsImpedance result }
-{
-    mesh.pipes.as_slice()[pipe as usize].b
-}
-
-/// The friction of one reach of a pipe of the mesh, in 1e-12 s2/m5.
-pub(crate) fn resistance(mesh: &Mesh, pipe: u32) -> i128
-    requires coefficients { HasCoefficients mesh.now }
-    requires on_mesh { pipe < length mesh.now.pipes }
-    ensures value { result ≡ resistance_of mesh.now pipe }
-    ensures limits { IsResistance result }
-{
-    mesh.pipes.as_slice()[pipe as usize].r
 }

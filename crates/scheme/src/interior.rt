@@ -1,5 +1,5 @@
 //! The law of the inner places of a pipe, one by one and by runs.
-ghost use Rattle.std.specs.Prelude.{◌≡◌, ◌+◌, ◌^◌, ◌<◌, ◌≤◌, length, All};
+ghost use Rattle.std.specs.Prelude.{◌≡◌, ◌+◌, ◌^◌, ◌<◌, ◌≤◌, true, false, length, All};
 ghost use Rattle.case_model.specs.declared.cases.Friction.TheVariants.{
   Explicit as ExplicitFriction,
   Linear as LinearFriction,
@@ -10,9 +10,9 @@ ghost use Rattle.case_model.specs.Runs.{run_of};
 ghost use Rattle.scheme.specs.Computable.{IsComputable};
 ghost use Rattle.scheme.specs.Laws.{inner_law as law_of_place, meaning_of};
 
-use crate::arrivals::{impedance, resistance};
-use crate::levels::vapour_head;
+use crate::pipes::{impedance, resistance};
 use crate::values::cavity_rule;
+use crate::vapour::vapour_head;
 use case_model::{Case, Friction, Mesh, Point};
 use charline::{explicit_point, linear_point};
 
@@ -43,14 +43,23 @@ pub(crate) fn inner_law(
     ensures { result ≡ law_of_place case.now mesh.now at.pipe at.place left.now own.now right.now }
 {
     match case.friction {
-        Friction::Explicit => explicit_law(case, mesh, at, left, own, right),
-        Friction::Linear => linear_law(case, mesh, at, left, own, right),
+        Friction::Explicit => place_law::<false>(case, mesh, at, left, own, right),
+        Friction::Linear => place_law::<true>(case, mesh, at, left, own, right),
     }
 }
 
-fn explicit_law(case: &Case, mesh: &Mesh, at: At, left: &Point, own: &Point, right: &Point) -> Point
+// The same where it is known whether friction is linear, as it is in the body of a loop.
+fn place_law<const LINEAR: bool>(
+    case: &Case,
+    mesh: &Mesh,
+    at: At,
+    left: &Point,
+    own: &Point,
+    right: &Point,
+) -> Point
     requires fit { IsComputable case.now mesh.now }
-    requires friction { case.now.friction ≡ ExplicitFriction }
+    requires explicit { LINEAR ≡ false → case.now.friction ≡ ExplicitFriction }
+    requires linear { LINEAR ≡ true → case.now.friction ≡ LinearFriction }
     requires on_mesh { at.pipe < length mesh.now.pipes }
     requires on_pipe { at.place ≤ reaches_of mesh.now at.pipe }
     requires left_in { IsPoint left.now }
@@ -61,23 +70,11 @@ fn explicit_law(case: &Case, mesh: &Mesh, at: At, left: &Point, own: &Point, rig
     let rule = cavity_rule(case, vapour_head(case, mesh, at.pipe, at.place));
     let b = impedance(mesh, at.pipe);
     let r = resistance(mesh, at.pipe);
-    explicit_point(&rule, b, r, left, own, right)
-}
-
-fn linear_law(case: &Case, mesh: &Mesh, at: At, left: &Point, own: &Point, right: &Point) -> Point
-    requires fit { IsComputable case.now mesh.now }
-    requires friction { case.now.friction ≡ LinearFriction }
-    requires on_mesh { at.pipe < length mesh.now.pipes }
-    requires on_pipe { at.place ≤ reaches_of mesh.now at.pipe }
-    requires left_in { IsPoint left.now }
-    requires own_in { IsPoint own.now }
-    requires right_in { IsPoint right.now }
-    ensures { result ≡ law_of_place case.now mesh.now at.pipe at.place left.now own.now right.now }
-{
-    let rule = cavity_rule(case, vapour_head(case, mesh, at.pipe, at.place));
-    let b = impedance(mesh, at.pipe);
-    let r = resistance(mesh, at.pipe);
-    linear_point(&rule, b, r, left, own, right)
+    if LINEAR {
+        linear_point(&rule, b, r, left, own, right)
+    } else {
+        explicit_point(&rule, b, r, left, own, right)
+    }
 }
 
 /// The points of a run of inner places of a pipe from place `first` on, as of `inner_law`. Friction is
@@ -96,15 +93,16 @@ pub(crate) fn inner_run(
     requires fits { first + length now.old < 2 ^ 32 }
     requires each { length before.now ≡ length now.old + 2 }
     requires before_in { All IsPoint before.now }
-    ensures { now.new ≡ run_of (meaning_of case.now mesh.now) pipe first before.now (length now.old) }
+    ensures { now.new
+        ≡ run_of (meaning_of case.now mesh.now) pipe first before.now (length now.old) }
 {
     match case.friction {
-        Friction::Explicit => explicit_run(case, mesh, pipe, first, before, now),
-        Friction::Linear => linear_run(case, mesh, pipe, first, before, now),
+        Friction::Explicit => place_run::<false>(case, mesh, pipe, first, before, now),
+        Friction::Linear => place_run::<true>(case, mesh, pipe, first, before, now),
     }
 }
 
-fn explicit_run(
+fn place_run<const LINEAR: bool>(
     case: &Case,
     mesh: &Mesh,
     pipe: u32,
@@ -113,38 +111,21 @@ fn explicit_run(
     now: &mut [Point],
 )
     requires fit { IsComputable case.now mesh.now }
-    requires friction { case.now.friction ≡ ExplicitFriction }
+    requires explicit { LINEAR ≡ false → case.now.friction ≡ ExplicitFriction }
+    requires linear { LINEAR ≡ true → case.now.friction ≡ LinearFriction }
     requires on_mesh { pipe < length mesh.now.pipes }
     requires before_last { first + length now.old ≤ reaches_of mesh.now pipe }
     requires fits { first + length now.old < 2 ^ 32 }
     requires each { length before.now ≡ length now.old + 2 }
     requires before_in { All IsPoint before.now }
-    ensures { now.new ≡ run_of (meaning_of case.now mesh.now) pipe first before.now (length now.old) }
+    ensures { now.new
+        ≡ run_of (meaning_of case.now mesh.now) pipe first before.now (length now.old) }
 {
     for (k, point) in now.iter_mut().enumerate() {
         let at = At {
             pipe,
             place: first + k as u32,
         };
-        *point = explicit_law(case, mesh, at, &before[k], &before[k + 1], &before[k + 2]);
-    }
-}
-
-fn linear_run(case: &Case, mesh: &Mesh, pipe: u32, first: u32, before: &[Point], now: &mut [Point])
-    requires fit { IsComputable case.now mesh.now }
-    requires friction { case.now.friction ≡ LinearFriction }
-    requires on_mesh { pipe < length mesh.now.pipes }
-    requires before_last { first + length now.old ≤ reaches_of mesh.now pipe }
-    requires fits { first + length now.old < 2 ^ 32 }
-    requires each { length before.now ≡ length now.old + 2 }
-    requires before_in { All IsPoint before.now }
-    ensures { now.new ≡ run_of (meaning_of case.now mesh.now) pipe first before.now (length now.old) }
-{
-    for (k, point) in now.iter_mut().enumerate() {
-        let at = At {
-            pipe,
-            place: first + k as u32,
-        };
-        *point = linear_law(case, mesh, at, &before[k], &before[k + 1], &before[k + 2]);
+        *point = place_law::<LINEAR>(case, mesh, at, &before[k], &before[k + 1], &before[k + 2]);
     }
 }

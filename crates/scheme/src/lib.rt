@@ -9,11 +9,12 @@ mod arrivals;
 mod causes;
 mod ends;
 mod interior;
-mod levels;
 mod node_laws;
 mod physics;
+mod pipes;
 mod starts;
 mod values;
+mod vapour;
 
 pub use causes::{bad_ends_have_causes, bad_nodes_have_causes, bad_places_have_causes};
 pub use physics::Physics;

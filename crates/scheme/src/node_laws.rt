@@ -1,14 +1,16 @@
 //! The law of a node, by its kind.
 ghost use Rattle.std.specs.Prelude.{◌≡◌, ◌<◌, ◌≤◌, pos, unsigned_abs, IsTrue, length, [], ◌∷◌, All};
 ghost use Rattle.case_model.specs.declared.cases.TableKind.TheVariants.{Curve, Gas};
-ghost use Rattle.case_model.specs.Limits.{IsHead, IsFlow, IsWithin, IsKind, IsRead, IsTableOf, IsValve};
+ghost use Rattle.case_model.specs.Limits.{IsHead, IsFlow, IsWithin, IsKind, IsRead, IsTableOf};
+ghost use Rattle.case_model.specs.Limits.{IsValve};
 ghost use Rattle.case_model.specs.Mesh.{ends_of};
 ghost use Rattle.case_model.specs.Parts.{node_at, table_at};
 ghost use Rattle.case_model.specs.Range.{IsPoint, IsState};
 ghost use Rattle.case_model.specs.Refusals.{is_through};
 ghost use Rattle.charline.specs.Cavity.{IsRule};
 ghost use Rattle.charline.specs.Characteristics.{IsArrival};
-ghost use Rattle.junctions.specs.Junctions.{reservoir_state, reservoir_flows, junction_state, junction_flows};
+ghost use Rattle.junctions.specs.Junctions.{reservoir_state, reservoir_flows, junction_state};
+ghost use Rattle.junctions.specs.Junctions.{junction_flows};
 ghost use Rattle.junctions.specs.Sums.{most_arrivals};
 ghost use Rattle.valves.specs.Discharges.{discharge_state, discharge_flow};
 ghost use Rattle.valves.specs.Devices.{inline_through};
@@ -16,118 +18,140 @@ ghost use Rattle.pumps.specs.Pumps.{pump_through};
 ghost use Rattle.vessels.specs.Vessels.{tank_state, tank_flows, vessel_state, vessel_flows};
 ghost use Rattle.scheme.specs.Computable.{IsComputable, HasEnds, Suits};
 ghost use Rattle.scheme.specs.Arrivals.{HasCoefficients, arrivals_from};
-ghost use Rattle.scheme.specs.Ends.{end_points as points_of, side_one, side_two, through_state, through_points};
-ghost use Rattle.scheme.specs.NodeLaws.{law_if, law_of_kind, node_law as law_of_node, sole, valve_of};
+ghost use Rattle.scheme.specs.Ends.{end_points as points_of, side_one, side_two, through_state};
+ghost use Rattle.scheme.specs.Ends.{through_points};
+ghost use Rattle.scheme.specs.NodeLaws.{law_if, law_of_kind, node_law as law_of_node, sole};
+ghost use Rattle.scheme.specs.NodeLaws.{valve_of};
 
 use crate::arrivals::gather;
 use crate::ends::{bad_points, end_points, pass, sides};
-use crate::levels::node_vapour_head;
 use crate::values::{cavity_rule, demand_at, head_at, opening_at, speed_at};
+use crate::vapour::node_vapour_head;
 use case_model::{Arrival, Case, CavityRule, End, MOST_ENDS, Mesh, NodeKind, NodeState, Point};
 use junctions::{junction, reservoir};
 use pumps::pump_flow;
 use valves::{Valve, discharge, inline};
 use vessels::{tank, vessel};
 
-/// The state of a node at a step, of its old state and the points beside it; `points` receives the point
-/// of each of its ends. Bad exactly where something that it reads is, a characteristic is out of range,
-/// a valve is over its limit, or a head, flow or volume of the result is out of range.
+/// A node at a step.
+#[derive(Clone, Copy)]
+pub(crate) struct NodeStep {
+    /// The index of the node.
+    pub(crate) node: u32,
+    /// The step that is computed.
+    pub(crate) step: u64,
+}
+
+// A node as its law sees it.
+#[derive(Clone, Copy)]
+struct NodeView<'a> {
+    kind: &'a NodeKind,
+    ends: &'a [End],
+    step: u64,
+    own: &'a NodeState,
+}
+
+/// The state of a node at a step, of its old state and the points beside it; `points` receives the
+/// point of each of its ends. Bad exactly where something that it reads is, a characteristic is out of
+/// range, a valve is over its limit, or a head, flow or volume of the result is out of range.
 #[tactic(auto, unfolding(crate::specs::NodeLaws::node_law))]
 pub(crate) fn node_law(
     case: &Case,
     mesh: &Mesh,
-    node: u32,
-    step: u64,
+    at: NodeStep,
     own: &NodeState,
     near: &[Point],
     points: &mut [Point],
 ) -> NodeState
     requires fit { IsComputable case.now mesh.now }
-    requires on_mesh { node < length mesh.now.ends }
-    requires near_each { length near.now ≡ length (ends_of mesh.now node) }
-    requires points_each { length points.old ≡ length (ends_of mesh.now node) }
+    requires on_mesh { at.node < length mesh.now.ends }
+    requires near_each { length near.now ≡ length (ends_of mesh.now at.node) }
+    requires points_each { length points.old ≡ length (ends_of mesh.now at.node) }
     requires own_in { IsState own.now }
     requires near_in { All IsPoint near.now }
-    ensures state { result ≡ (law_of_node case.now mesh.now node step own.now near.now).0 }
-    ensures points { points.new ≡ (law_of_node case.now mesh.now node step own.now near.now).1 }
+    ensures state { result
+        ≡ (law_of_node case.now mesh.now at.node at.step own.now near.now).0 }
+    ensures points { points.new
+        ≡ (law_of_node case.now mesh.now at.node at.step own.now near.now).1 }
 {
-    let kind = &case.nodes.as_slice()[node as usize].kind;
-    let ends = mesh.ends.as_slice()[node as usize].as_slice();
-    let hv = node_vapour_head(case, node);
-    law_at(case, mesh, hv, kind, step, own, ends, near, points)
+    let view = NodeView {
+        kind: &case.nodes.as_slice()[at.node as usize].kind,
+        ends: mesh.ends.as_slice()[at.node as usize].as_slice(),
+        step: at.step,
+        own,
+    };
+    let hv = node_vapour_head(case, at.node);
+    law_at(case, mesh, hv, &view, near, points)
 }
 
 fn law_at(
     case: &Case,
     mesh: &Mesh,
     hv: i64,
-    kind: &NodeKind,
-    step: u64,
-    own: &NodeState,
-    ends: &[End],
+    view: &NodeView,
     near: &[Point],
     points: &mut [Point],
 ) -> NodeState
     requires read { IsRead case.now }
     requires coefficients { HasCoefficients mesh.now }
     requires head_in { unsigned_abs hv ≤ 100_000_000_000 }
-    requires kind_in { IsKind case.now.tables kind.now }
-    requires has_ends { HasEnds kind.now ends.now }
-    requires ends_in { All (λ e. e.pipe < length mesh.now.pipes) ends.now }
-    requires own_in { IsState own.now }
-    requires near_each { length near.now ≡ length ends.now }
+    requires kind_in { IsKind case.now.tables view.now.kind.now }
+    requires has_ends { HasEnds view.now.kind.now view.now.ends.now }
+    requires ends_in { All (λ e. e.pipe < length mesh.now.pipes) view.now.ends.now }
+    requires own_in { IsState view.now.own.now }
+    requires near_each { length near.now ≡ length view.now.ends.now }
     requires near_in { All IsPoint near.now }
-    requires points_each { length points.old ≡ length ends.now }
-    ensures state { result ≡ (law_if case.now hv kind.now step own.now ends.now (arrivals_from case.now.friction mesh.now ends.now near.now)).0 }
-    ensures points { points.new ≡ (law_if case.now hv kind.now step own.now ends.now (arrivals_from case.now.friction mesh.now ends.now near.now)).1 }
+    requires points_each { length points.old ≡ length view.now.ends.now }
+    ensures state { result
+        ≡ (law_if case.now hv view.now.kind.now view.now.step view.now.own.now view.now.ends.now
+        (arrivals_from case.now.friction mesh.now view.now.ends.now near.now)).0 }
+    ensures points { points.new
+        ≡ (law_if case.now hv view.now.kind.now view.now.step view.now.own.now view.now.ends.now
+        (arrivals_from case.now.friction mesh.now view.now.ends.now near.now)).1 }
 {
     let mut arrivals = [Arrival { c: 0, b: 0 }; MOST_ENDS];
-    let arrivals = &mut arrivals[..ends.len()];
-    if !gather(case.friction, mesh, ends, near, arrivals) {
-        bad_points(ends, points);
+    let arrivals = &mut arrivals[..view.ends.len()];
+    if !gather(case.friction, mesh, view.ends, near, arrivals) {
+        bad_points(view.ends, points);
         return NodeState::Bad;
     }
-    kind_law(case, hv, kind, step, own, ends, arrivals, points)
+    kind_law(case, hv, view, arrivals, points)
 }
 
 #[tactic(auto, unfolding(crate::specs::NodeLaws::law_of_kind))]
 fn kind_law(
     case: &Case,
     hv: i64,
-    kind: &NodeKind,
-    step: u64,
-    own: &NodeState,
-    ends: &[End],
+    view: &NodeView,
     arrivals: &[Arrival],
     points: &mut [Point],
 ) -> NodeState
     requires read { IsRead case.now }
     requires head_in { unsigned_abs hv ≤ 100_000_000_000 }
-    requires kind_in { IsKind case.now.tables kind.now }
-    requires suits { Suits kind.now ends.now }
-    requires own_in { IsState own.now }
-    requires some { 0 < length ends.now }
-    requires few { length ends.now ≤ most_arrivals }
-    requires each { length arrivals.now ≡ length ends.now }
-    requires points_each { length points.old ≡ length ends.now }
+    requires kind_in { IsKind case.now.tables view.now.kind.now }
+    requires suits { Suits view.now.kind.now view.now.ends.now }
+    requires own_in { IsState view.now.own.now }
+    requires some { 0 < length view.now.ends.now }
+    requires few { length view.now.ends.now ≤ most_arrivals }
+    requires each { length arrivals.now ≡ length view.now.ends.now }
+    requires points_each { length points.old ≡ length view.now.ends.now }
     requires arrivals_in { All IsArrival arrivals.now }
-    ensures state { result ≡ (law_of_kind case.now hv kind.now step own.now ends.now arrivals.now).0 }
-    ensures points { points.new ≡ (law_of_kind case.now hv kind.now step own.now ends.now arrivals.now).1 }
+    ensures state { result
+        ≡ (law_of_kind case.now hv view.now.kind.now view.now.step view.now.own.now
+        view.now.ends.now arrivals.now).0 }
+    ensures points { points.new
+        ≡ (law_of_kind case.now hv view.now.kind.now view.now.step view.now.own.now
+        view.now.ends.now arrivals.now).1 }
 {
-    match kind {
+    let ends = view.ends;
+    match view.kind {
         NodeKind::Reservoir { head } => {
-            reservoir_law(head_at(case, head, step), ends, arrivals, points)
+            reservoir_law(head_at(case, head, view.step), ends, arrivals, points)
         }
         NodeKind::Junction { demand, .. } => {
             let rule = cavity_rule(case, hv);
-            junction_law(
-                &rule,
-                demand_at(case, demand, step),
-                own,
-                ends,
-                arrivals,
-                points,
-            )
+            let demand = demand_at(case, demand, view.step);
+            junction_law(&rule, demand, view.own, ends, arrivals, points)
         }
         NodeKind::Discharge {
             q0,
@@ -137,16 +161,11 @@ fn kind_law(
             ..
         } => {
             let rule = cavity_rule(case, hv);
-            let valve = valve(*q0, *h0, *outlet);
-            discharge_law(
-                &rule,
-                &valve,
-                opening_at(case, opening, step),
-                own,
-                ends,
-                arrivals,
-                points,
-            )
+            let opened = Opened {
+                valve: valve(*q0, *h0, *outlet),
+                opening: opening_at(case, opening, view.step),
+            };
+            discharge_law(&rule, &opened, view.own, ends, arrivals, points)
         }
         NodeKind::Inline {
             q0,
@@ -154,28 +173,25 @@ fn kind_law(
             opening,
             ..
         } => {
-            inline_law(
-                *q0,
-                *h0,
-                opening_at(case, opening, step),
-                ends,
-                arrivals,
-                points,
-            )
+            let opening = opening_at(case, opening, view.step);
+            inline_law(*q0, *h0, opening, ends, arrivals, points)
         }
         NodeKind::Pump { curve, speed, .. } => {
-            pump_law(
-                case,
-                *curve,
-                speed_at(case, speed, step),
-                ends,
-                arrivals,
-                points,
-            )
+            let speed = speed_at(case, speed, view.step);
+            pump_law(case, *curve, speed, ends, arrivals, points)
         }
-        NodeKind::Tank { area, .. } => tank_law(case.dt, *area, own, ends, arrivals, points),
-        NodeKind::Vessel { gas, .. } => vessel_law(case, *gas, own, ends, arrivals, points),
+        NodeKind::Tank { area, .. } => {
+            tank_law(case.dt, *area, view.own, ends, arrivals, points)
+        }
+        NodeKind::Vessel { gas, .. } => { vessel_law(case, *gas, view.own, ends, arrivals, points) }
     }
+}
+
+// A valve at an opening.
+#[derive(Clone, Copy)]
+struct Opened {
+    valve: Valve,
+    opening: i64,
 }
 
 fn valve(q0: i64, h0: i64, outlet: i64) -> Valve
@@ -218,7 +234,8 @@ fn junction_law(
     requires points_each { length points.old ≡ length ends.now }
     requires arrivals_in { All IsArrival arrivals.now }
     ensures state { result ≡ junction_state rule.now demand own.now arrivals.now }
-    ensures points { points.new ≡ points_of result ends.now (junction_flows rule.now demand own.now arrivals.now) }
+    ensures points { points.new
+        ≡ points_of result ends.now (junction_flows rule.now demand own.now arrivals.now) }
 {
     let mut flows = [0i64; MOST_ENDS];
     let flows = &mut flows[..ends.len()];
@@ -229,28 +246,38 @@ fn junction_law(
 
 fn discharge_law(
     rule: &CavityRule,
-    valve: &Valve,
-    opening: i64,
+    opened: &Opened,
     own: &NodeState,
     ends: &[End],
     arrivals: &[Arrival],
     points: &mut [Point],
 ) -> NodeState
     requires rule { IsRule rule.now }
-    requires outlet_in { IsHead valve.now.outlet }
-    requires opening_in { IsWithin (pos 0) (pos 1_000_000) opening }
+    requires outlet_in { IsHead opened.now.valve.outlet }
+    requires opening_in { IsWithin (pos 0) (pos 1_000_000) opened.now.opening }
     requires own_in { IsState own.now }
     requires one { length ends.now ≡ 1 }
     requires each { length arrivals.now ≡ length ends.now }
     requires points_each { length points.old ≡ length ends.now }
     requires arrivals_in { All IsArrival arrivals.now }
-    requires valve_in { IsValve valve.now.q0 valve.now.h0 }
-    ensures state { result ≡ discharge_state rule.now valve.now opening own.now (sole arrivals.now) }
-    ensures points { points.new ≡ points_of result ends.now (discharge_flow rule.now valve.now opening own.now (sole arrivals.now) ∷ []) }
+    requires valve_in { IsValve opened.now.valve.q0 opened.now.valve.h0 }
+    ensures state { result
+        ≡ discharge_state rule.now opened.now.valve opened.now.opening own.now (sole arrivals.now) }
+    ensures points { points.new
+        ≡ points_of result ends.now
+        (discharge_flow rule.now opened.now.valve opened.now.opening own.now (sole arrivals.now)
+        ∷ []) }
 {
     let mut flows = [0i64];
     let arrival = first(arrivals);
-    let state = discharge_end(rule, valve, opening, own, &arrival, &mut flows);
+    let state = discharge_end(
+        rule,
+        &opened.valve,
+        opened.opening,
+        own,
+        &arrival,
+        &mut flows,
+    );
     end_points(&state, ends, &flows, points);
     state
 }
@@ -299,8 +326,14 @@ fn inline_law(
     requires points_each { length points.old ≡ length ends.now }
     requires arrivals_in { All IsArrival arrivals.now }
     requires valve_in { IsValve q0 h0 }
-    ensures state { result ≡ through_state (inline_through q0 h0 opening (side_one ends.now arrivals.now) (side_two ends.now arrivals.now)) }
-    ensures points { points.new ≡ through_points (inline_through q0 h0 opening (side_one ends.now arrivals.now) (side_two ends.now arrivals.now)) ends.now }
+    ensures state { result
+        ≡ through_state
+        (inline_through q0 h0 opening (side_one ends.now arrivals.now)
+        (side_two ends.now arrivals.now)) }
+    ensures points { points.new
+        ≡ through_points
+        (inline_through q0 h0 opening (side_one ends.now arrivals.now)
+        (side_two ends.now arrivals.now)) ends.now }
 {
     let (one, two) = sides(ends, arrivals);
     let valve = valve(q0, h0, 0);
@@ -322,8 +355,14 @@ fn pump_law(
     requires each { length arrivals.now ≡ length ends.now }
     requires points_each { length points.old ≡ length ends.now }
     requires arrivals_in { All IsArrival arrivals.now }
-    ensures state { result ≡ through_state (pump_through (table_at case.now curve).points speed (side_one ends.now arrivals.now) (side_two ends.now arrivals.now)) }
-    ensures points { points.new ≡ through_points (pump_through (table_at case.now curve).points speed (side_one ends.now arrivals.now) (side_two ends.now arrivals.now)) ends.now }
+    ensures state { result
+        ≡ through_state
+        (pump_through (table_at case.now curve).points speed (side_one ends.now arrivals.now)
+        (side_two ends.now arrivals.now)) }
+    ensures points { points.new
+        ≡ through_points
+        (pump_through (table_at case.now curve).points speed (side_one ends.now arrivals.now)
+        (side_two ends.now arrivals.now)) ends.now }
 {
     let (one, two) = sides(ends, arrivals);
     let curve = case.tables.as_slice()[curve as usize].points.as_slice();
@@ -347,7 +386,8 @@ fn tank_law(
     requires points_each { length points.old ≡ length ends.now }
     requires arrivals_in { All IsArrival arrivals.now }
     ensures state { result ≡ tank_state dt area own.now arrivals.now }
-    ensures points { points.new ≡ points_of result ends.now (tank_flows dt area own.now arrivals.now) }
+    ensures points { points.new
+        ≡ points_of result ends.now (tank_flows dt area own.now arrivals.now) }
 {
     let mut flows = [0i64; MOST_ENDS];
     let flows = &mut flows[..ends.len()];
@@ -372,8 +412,11 @@ fn vessel_law(
     requires each { length arrivals.now ≡ length ends.now }
     requires points_each { length points.old ≡ length ends.now }
     requires arrivals_in { All IsArrival arrivals.now }
-    ensures state { result ≡ vessel_state case.now.dt (table_at case.now gas).points own.now arrivals.now }
-    ensures points { points.new ≡ points_of result ends.now (vessel_flows case.now.dt (table_at case.now gas).points own.now arrivals.now) }
+    ensures state { result
+        ≡ vessel_state case.now.dt (table_at case.now gas).points own.now arrivals.now }
+    ensures points { points.new
+        ≡ points_of result ends.now
+        (vessel_flows case.now.dt (table_at case.now gas).points own.now arrivals.now) }
 {
     let mut flows = [0i64; MOST_ENDS];
     let flows = &mut flows[..ends.len()];

@@ -11,7 +11,7 @@ ghost use Rattle.scheme.specs.Starts.{start_point, start_node};
 ghost use Rattle.scheme.specs.ReadProps.{IsComputable-prop};
 
 use crate::interior::{self, At, inner_law};
-use crate::node_laws::node_law;
+use crate::node_laws::{NodeStep, node_law};
 use crate::starts;
 use case_model::{Case, Law, Mesh, NodeState, Point};
 
@@ -28,10 +28,13 @@ impl<'a> Physics<'a> {
     pub fn over(case: &'a Case, mesh: &'a Mesh) -> Physics<'a>
         requires accepted { IsAccepted case.now mesh.now }
         ensures meaning { ⟦<Physics<'a> as Law>⟧.meaning result ≡ meaning_of case.now mesh.now }
-        ensures ends { (k : ℕ) → k < length mesh.now.ends → length (ends_of mesh.now k) ≤ most_arrivals }
+        ensures ends { (k : ℕ) → k < length mesh.now.ends →
+            length (ends_of mesh.now k) ≤ most_arrivals }
         ensures fits { (⟦<Physics<'a> as Law>⟧.meaning result).mesh ≡ mesh.now }
-        ensures good_places { (p i : ℕ) → p < length mesh.now.pipes → i ≤ reaches mesh.now p → is_bad (start_point case.now mesh.now p i) ≡ false }
-        ensures good_nodes { (k : ℕ) → k < length mesh.now.ends → is_bad_state (start_node case.now mesh.now k) ≡ false }
+        ensures good_places { (p i : ℕ) → p < length mesh.now.pipes → i ≤ reaches mesh.now p →
+            is_bad (start_point case.now mesh.now p i) ≡ false }
+        ensures good_nodes { (k : ℕ) → k < length mesh.now.ends →
+            is_bad_state (start_node case.now mesh.now k) ≡ false }
     {
         Physics { case, mesh }
     }
@@ -58,7 +61,14 @@ impl<'a> Law for Physics<'a> {
         near: &[Point],
         ends: &mut [Point],
     ) -> NodeState {
-        node_law(self.case, self.mesh, node, step, own, near, ends)
+        node_law(
+            self.case,
+            self.mesh,
+            NodeStep { node, step },
+            own,
+            near,
+            ends,
+        )
     }
 
     #[tactic(auto, unfolding(crate::specs::Laws::meaning_of))]

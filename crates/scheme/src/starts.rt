@@ -9,6 +9,7 @@ ghost use Rattle.junctions.specs.Sums.{most_arrivals};
 ghost use Rattle.scheme.specs.Computable.{IsComputable};
 ghost use Rattle.scheme.specs.Ends.{along as along_end};
 ghost use Rattle.scheme.specs.Starts.{
+  head_between,
   start_head as head_of,
   start_inflow as inflow_of,
   start_volume as volume_of,
@@ -18,10 +19,11 @@ ghost use Rattle.scheme.specs.Starts.{
 };
 
 use crate::ends::along;
-use crate::levels::{level, reaches};
+use crate::pipes::reaches;
 use crate::values::head_at;
 use case_model::{Case, End, Mesh, NodeKind, NodeState, Point, point_of, state_of};
 use fixed_num::interp;
+use reaches::elevation_between;
 
 /// The state of a node at step 0.
 #[tactic(auto, unfolding(crate::specs::Starts::start_node))]
@@ -165,4 +167,16 @@ fn inflow_along(case: &Case, end: &End) -> i128
     ensures size { unsigned_abs result ≤ 1_000_000_000_000 }
 {
     along(end, case.pipes.as_slice()[end.pipe as usize].flow)
+}
+
+// The head (1e-6 m) at a place of so many reaches, between the heads at both ends.
+#[tactic(auto, unfolding(crate::specs::Starts::head_between, case_model::specs::Formulas::elevation_between))]
+fn level(first: i64, last: i64, place: u32, reaches: u32) -> i64
+    requires first_in { unsigned_abs first ≤ 100_000_000_000 }
+    requires last_in { unsigned_abs last ≤ 100_000_000_000 }
+    requires some { 0 < reaches }
+    requires on_pipe { place ≤ reaches }
+    ensures { result ≡ head_between first last place reaches }
+{
+    elevation_between(first, last, place, reaches)
 }

@@ -1,7 +1,9 @@
 //! Numbers that are fixed or follow a time table, and the rule of a cavity.
-ghost use Rattle.std.specs.Prelude.{◌≡◌, ◌<◌, ◌≤◌, ◌*◌, min, ℤ, pos, ◌*ℤ◌, ◌≤ℤ◌, unsigned_abs, length, All};
+ghost use Rattle.std.specs.Prelude.{◌≡◌, ◌<◌, ◌≤◌, ◌*◌, min, ℤ, pos, ◌*ℤ◌, ◌≤ℤ◌, unsigned_abs};
+ghost use Rattle.std.specs.Prelude.{length, All};
 ghost use Rattle.fixed_num.specs.Tables.{IsBetween, interp as interpolated};
-ghost use Rattle.case_model.specs.declared.cases.TableKind.TheVariants.{Heads, Flows, Openings, Speeds};
+ghost use Rattle.case_model.specs.declared.cases.TableKind.TheVariants.{Heads, Flows, Openings};
+ghost use Rattle.case_model.specs.declared.cases.TableKind.TheVariants.{Speeds};
 ghost use Rattle.case_model.specs.Limits.{IsHead, IsFlow, IsWithin, IsOpening, IsValue, IsRead};
 ghost use Rattle.case_model.specs.Parts.{table_at};
 ghost use Rattle.charline.specs.Cavity.{IsRule};
@@ -43,7 +45,8 @@ pub(crate) fn opening_at(case: &Case, opening: &Value, step: u64) -> i64
 /// The speed ratio of a pump (1e-6) at a step.
 pub(crate) fn speed_at(case: &Case, speed: &Value, step: u64) -> i64
     requires read { IsRead case.now }
-    requires speed_in { IsValue (IsWithin (pos 0) (pos 2_000_000)) Speeds case.now.tables speed.now }
+    requires speed_in { IsValue
+        (IsWithin (pos 0) (pos 2_000_000)) Speeds case.now.tables speed.now }
     ensures value { result ≡ value_at case.now speed.now step }
     ensures limits { IsWithin (pos 0) (pos 2_000_000) result }
 {
@@ -55,7 +58,8 @@ fn value(case: &Case, value: &Value, step: u64) -> i64
     requires read { IsRead case.now }
     requires timed { IsTimed case.now value.now }
     ensures value { result ≡ value_at case.now value.now step }
-    ensures within { (low high : ℤ) → Keeps low high case.now value.now → IsBetween low high result }
+    ensures within { (low high : ℤ) → Keeps low high case.now value.now →
+        IsBetween low high result }
 {
     match value {
         Value::Fixed(value) => *value,
@@ -71,7 +75,8 @@ pub(crate) fn by_table(points: &[(i64, i64)], step: u64, dt: i64) -> i64
     requires least { pos 1 ≤ℤ dt }
     requires most { dt ≤ℤ pos 1_000_000 }
     ensures value { result ≡ interpolated points.now (pos step *ℤ dt) }
-    ensures within { (low high : ℤ) → All (λ e. IsBetween low high e.1) points.now → IsBetween low high result }
+    ensures within { (low high : ℤ) → All (λ e. IsBetween low high e.1) points.now →
+        IsBetween low high result }
 {
     interp(points, time(step, dt))
 }

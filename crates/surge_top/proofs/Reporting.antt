@@ -13,7 +13,7 @@ use Rattle.case_model.specs.Mesh.{IsNumbered}
 use Rattle.case_model.specs.Parts.{no_probe, probe_at}
 use Rattle.case_model.specs.PlaceNumbers.{IsOn, number_of}
 use Rattle.case_model.specs.Samples.{Sample, sample}
-use Rattle.envelope.specs.CellLaws.{within-first}
+use Rattle.envelope.proofs.CellLaws.{within-first}
 use Rattle.envelope.specs.Cells.{IsRising, end_of_span}
 use Rattle.envelope.specs.Folds.{Stands, IsFoldOf, IsSameFold, spans_of, steps_of}
 use Rattle.envelope.specs.Kept.{extreme_kept, sample_kept}

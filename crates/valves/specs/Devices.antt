@@ -1,5 +1,5 @@
--- A device between two pipes, with one flow and a head on each side. After Wylie and Streeter, Fluid
--- Transients in Systems: valve in a line.
+-- A device between two pipes, with one flow and a head on each side. After Wylie and Streeter,
+-- Fluid Transients in Systems: valve in a line.
 use Rattle.std.specs.Prelude.{ℤ, ◌+ℤ◌, ◌-ℤ◌, nat_le, unsigned_abs, Bool, ◌&&◌, if◌then◌else◌}
 use Rattle.case_model.specs.declared.meshes.Arrival.{Arrival}
 use Rattle.case_model.specs.declared.meshes.Through.{Through}
@@ -23,8 +23,8 @@ through_of q h1 h2 = if is_flow q && is_head h1 && is_head h2 then Good q h1 h2 
 unfoldable pub through : Arrival → Arrival → ℤ → Through
 through one two q = through_of q (one.c -ℤ impedance_head one.b q) (two.c +ℤ impedance_head two.b q)
 
--- a valve in a line, with the flow q0 under the loss h0 when it is open: Bad where it is over its limit
--- on both pipes together
+-- a valve in a line, with the flow q0 under the loss h0 when it is open: Bad where it is over its
+-- limit on both pipes together
 unfoldable pub inline_through : ℤ → ℤ → ℤ → Arrival → Arrival → Through
 inline_through q0 h0 opening one two =
     if is_over q0 h0 (one.b +ℤ two.b) then Bad

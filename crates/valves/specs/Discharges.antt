@@ -1,7 +1,7 @@
--- A valve at the end of a pipe, that discharges against an outlet head. Where the head of the liquid
--- would fall below the vapour head it is held there, and a cavity grows by the valve's flow less the
--- pipe's. After Wylie and Streeter, Fluid Transients in Systems: valve at the downstream end of a pipe,
--- column separation.
+-- A valve at the end of a pipe, that discharges against an outlet head. Where the head of the
+-- liquid would fall below the vapour head it is held there, and a cavity grows by the valve's flow
+-- less the pipe's. After Wylie and Streeter, Fluid Transients in Systems: valve at the downstream
+-- end of a pipe, column separation.
 use Rattle.std.specs.Prelude.{ℤ, pos, ◌-ℤ◌, int_le, int_lt, unsigned_abs, ◌==◌, ◌&&◌, if◌then◌else◌}
 use Rattle.std.specs.Int.{int_max}
 use Rattle.case_model.specs.declared.meshes.Arrival.{Arrival}
@@ -34,7 +34,8 @@ liquid_head a q = a.c -ℤ impedance_head a.b q
 
 -- the valve's flow at a head of the node
 abbrev pub outflow : Valve → ℤ → ℤ → ℤ
-outflow valve opening h = orifice_flow (square_flow (open_flow valve.q0 opening) valve.h0) (h -ℤ valve.outlet)
+outflow valve opening h =
+    orifice_flow (square_flow (open_flow valve.q0 opening) valve.h0) (h -ℤ valve.outlet)
 
 -- the growth of a cavity at the valve
 abbrev pub discharge_growth : ℤ → Valve → ℤ → Arrival → ℤ
@@ -44,7 +45,8 @@ discharge_growth hv valve opening a = outflow valve opening hv -ℤ flow_in hv a
 -- closed, at the head of the liquid but not below the vapour head
 abbrev pub kept_or_closed : ℤ → ℤ → ℤ → ℤ → ℤ → ℤ → NodeState × ℤ
 kept_or_closed hv q head growth volume inflow =
-    if int_lt (pos 0) volume then end_at hv volume growth inflow else end_at (int_max head hv) (pos 0) (pos 0) q
+    if int_lt (pos 0) volume then end_at hv volume growth inflow
+    else end_at (int_max head hv) (pos 0) (pos 0) q
 
 -- a valve with this flow and head of the liquid, with the volume and the growth of the step before
 abbrev pub discharge_after : CavityRule → Valve → ℤ → ℤ → ℤ → ℤ → ℤ → Arrival → NodeState × ℤ
@@ -52,14 +54,16 @@ discharge_after rule valve opening q head volume growth a =
     if (unsigned_abs volume == 0) && int_le rule.hv head
     then end_at head (pos 0) (pos 0) q
     else kept_or_closed rule.hv q head (discharge_growth rule.hv valve opening a)
-    (cavity_volume rule volume growth (discharge_growth rule.hv valve opening a)) (flow_in rule.hv a)
+    (cavity_volume rule volume growth (discharge_growth rule.hv valve opening a))
+    (flow_in rule.hv a)
 
--- the new state of the node and the flow into it along its end, from the old state: Bad where that is,
--- and where the valve is over its limit on its pipe
+-- the new state of the node and the flow into it along its end, from the old state: Bad where that
+-- is, and where the valve is over its limit on its pipe
 unfoldable pub discharge_end : CavityRule → Valve → ℤ → NodeState → Arrival → NodeState × ℤ
 discharge_end rule valve opening (Good h v g) a =
     if is_over valve.q0 valve.h0 a.b then (Bad, pos 0)
-    else discharge_after rule valve opening (liquid_flow valve opening a) (liquid_head a (liquid_flow valve opening a)) v g a
+    else discharge_after rule valve opening (liquid_flow valve opening a)
+    (liquid_head a (liquid_flow valve opening a)) v g a
 discharge_end rule valve opening Bad a = (Bad, pos 0)
 
 unfoldable pub discharge_state : CavityRule → Valve → ℤ → NodeState → Arrival → NodeState

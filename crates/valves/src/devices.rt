@@ -3,7 +3,8 @@ ghost use Rattle.std.specs.Prelude.{◌≡◌, ◌≤◌, pos, ◌+ℤ◌, unsig
 ghost use Rattle.case_model.specs.Limits.{IsWithin, IsValve};
 ghost use Rattle.charline.specs.Characteristics.{IsArrival};
 ghost use Rattle.valves.specs.Orifices.{IsOrifice, valve_flow as valve_flow_of};
-ghost use Rattle.valves.specs.Devices.{through_of as through_from, through as through_at, inline_through};
+ghost use Rattle.valves.specs.Devices.{through_of as through_from, through as through_at};
+ghost use Rattle.valves.specs.Devices.{inline_through};
 
 use crate::discharges::Valve;
 use crate::orifices::{half_flow, is_over, line_flow, open_flow, square_flow};

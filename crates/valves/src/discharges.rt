@@ -12,7 +12,9 @@ ghost use Rattle.std.specs.Prelude.{
 ghost use Rattle.std.specs.Int.{int_max};
 ghost use Rattle.case_model.specs.Limits.{IsWithin, IsHead, IsValve};
 ghost use Rattle.case_model.specs.Range.{IsState};
-ghost use Rattle.charline.specs.Characteristics.{IsImpedance, IsArrival, impedance_head as head_of_flow, flow_in as flow_of};
+ghost use Rattle.charline.specs.Characteristics.{IsImpedance, IsArrival};
+ghost use Rattle.charline.specs.Characteristics.{impedance_head as head_of_flow};
+ghost use Rattle.charline.specs.Characteristics.{flow_in as flow_of};
 ghost use Rattle.charline.specs.Cavity.{IsRule};
 ghost use Rattle.valves.specs.Orifices.{IsOrifice};
 ghost use Rattle.valves.specs.Discharges.{
@@ -100,7 +102,11 @@ fn discharge_end(
                 q,
                 head: liquid_head(arrival, q),
             };
-            discharge_after(rule, valve, opening, &liquid, *v, *g, arrival)
+            let old = Old {
+                volume: *v,
+                growth: *g,
+            };
+            discharge_after(rule, valve, opening, &liquid, &old, arrival)
         }
         NodeState::Bad => (NodeState::Bad, 0),
     }
@@ -111,6 +117,13 @@ fn discharge_end(
 struct Liquid {
     q: i64,
     head: i128,
+}
+
+// What a cavity keeps from the step before: its volume and its growth.
+#[derive(Drop)]
+struct Old {
+    volume: i64,
+    growth: i64,
 }
 
 fn liquid_flow(valve: &Valve, opening: i64, arrival: &Arrival) -> i64
@@ -169,25 +182,26 @@ fn discharge_after(
     valve: &Valve,
     opening: i64,
     liquid: &Liquid,
-    volume: i64,
-    growth: i64,
+    old: &Old,
     arrival: &Arrival,
 ) -> (NodeState, i64)
     requires rule { IsRule rule.now }
     requires outlet_in { IsHead valve.now.outlet }
     requires opening_in { IsWithin (pos 0) (pos 1_000_000) opening }
-    requires volume_in { unsigned_abs volume ≤ 1_000_000_000_000_000 }
-    requires growth_in { unsigned_abs growth ≤ 10_000_000_000_000_000 }
+    requires volume_in { unsigned_abs old.now.volume ≤ 1_000_000_000_000_000 }
+    requires growth_in { unsigned_abs old.now.growth ≤ 10_000_000_000_000_000 }
     requires arrival_in { IsArrival arrival.now }
     requires valve_in { IsOrifice arrival.now.b valve.now.q0 valve.now.h0 }
-    ensures { result ≡ after_of rule.now valve.now opening liquid.now.q liquid.now.head volume growth arrival.now }
+    ensures { result
+        ≡ after_of rule.now valve.now opening liquid.now.q liquid.now.head old.now.volume
+        old.now.growth arrival.now }
 {
-    if is_liquid(volume, liquid.head, rule.hv) {
+    if is_liquid(old.volume, liquid.head, rule.hv) {
         return end_at(liquid.head, 0, 0, liquid.q);
     }
     let inflow = inflow(arrival, rule.hv);
     let now = growth_at(valve, opening, rule.hv, inflow);
-    let after = cavity_volume(rule, volume, growth, now);
+    let after = cavity_volume(rule, old.volume, old.growth, now);
     kept_or_closed(rule.hv, liquid, now, after, inflow)
 }
 

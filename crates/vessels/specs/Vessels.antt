@@ -1,7 +1,8 @@
--- Nodes that store water: surge tanks and air vessels. The old inflow and the new one fill a tank, the
--- old one alone presses the gas of a vessel together. After Wylie and Streeter, Fluid Transients in
--- Systems: surge tanks, air chambers.
-use Rattle.std.specs.Prelude.{ℤ, pos, ◌-◌, ◌+ℤ◌, ◌-ℤ◌, ◌*ℤ◌, int_le, Bool, ◌&&◌, if◌then◌else◌, List, length}
+-- Nodes that store water: surge tanks and air vessels. The old inflow and the new one fill a tank,
+-- the old one alone presses the gas of a vessel together. After Wylie and Streeter, Fluid
+-- Transients in Systems: surge tanks, air chambers.
+use Rattle.std.specs.Prelude.{ℤ, pos, ◌-◌, ◌+ℤ◌, ◌-ℤ◌, ◌*ℤ◌, int_le, Bool, ◌&&◌, if◌then◌else◌}
+use Rattle.std.specs.Prelude.{List, length}
 use Rattle.fixed_num.specs.Rounding.{rnd}
 use Rattle.fixed_num.specs.Tables.{interp}
 use Rattle.case_model.specs.declared.meshes.Arrival.{Arrival}
@@ -15,11 +16,12 @@ use Rattle.junctions.specs.Levels.{filled, flows_of}
 abbrev pub storage : ℤ → ℤ
 storage area = area *ℤ pos 20_000_000_000_000_000
 
--- the head in 1e-6 m of a tank one time step (1e-6 s) after a head and an inflow (1e-9 m3/s): the mean
--- of the old and the new inflow over the step fills the area by the rise
+-- the head in 1e-6 m of a tank one time step (1e-6 s) after a head and an inflow (1e-9 m3/s): the
+-- mean of the old and the new inflow over the step fills the area by the rise
 unfoldable pub tank_head : ℤ → ℤ → ℤ → ℤ → List Arrival → ℤ
 tank_head dt area head growth arrivals =
-    rnd ((storage area *ℤ head) +ℤ (dt *ℤ ((growth *ℤ pos 10_000_000_000_000) +ℤ sum_of weighted_head arrivals)))
+    rnd ((storage area *ℤ head) +ℤ
+    (dt *ℤ ((growth *ℤ pos 10_000_000_000_000) +ℤ sum_of weighted_head arrivals)))
     (storage area +ℤ (dt *ℤ sum_of weight arrivals))
 
 -- the state of a tank from its old one: Bad where that is
@@ -36,13 +38,16 @@ vessel_volume dt volume growth = volume -ℤ rnd (dt *ℤ growth) (pos 1_000_000
 
 -- whether a gas table reaches from under a volume to over it
 abbrev pub has_volume : List (ℤ × ℤ) → ℤ → Bool
-has_volume gas volume = int_le (entry_at gas 0).0 volume && int_le volume (entry_at gas (length gas - 1)).0
+has_volume gas volume =
+    int_le (entry_at gas 0).0 volume && int_le volume (entry_at gas (length gas - 1)).0
 
 -- a vessel with this volume of gas: its head is that of the gas table
 abbrev pub vessel_with : List (ℤ × ℤ) → ℤ → List Arrival → NodeState
-vessel_with gas volume arrivals = if has_volume gas volume then filled (interp gas volume) volume arrivals else Bad
+vessel_with gas volume arrivals =
+    if has_volume gas volume then filled (interp gas volume) volume arrivals else Bad
 
--- the state of a vessel from its old one: Bad where that is, and where the table ends before its volume
+-- the state of a vessel from its old one: Bad where that is, and where the table ends before its
+-- volume
 unfoldable pub vessel_state : ℤ → List (ℤ × ℤ) → NodeState → List Arrival → NodeState
 vessel_state dt gas (Good h v g) arrivals = vessel_with gas (vessel_volume dt v g) arrivals
 vessel_state dt gas Bad arrivals = Bad

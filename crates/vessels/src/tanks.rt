@@ -18,7 +18,8 @@ ghost use Rattle.case_model.specs.Range.{IsState};
 ghost use Rattle.charline.specs.Characteristics.{IsArrival};
 ghost use Rattle.junctions.specs.Levels.{flows_of};
 ghost use Rattle.junctions.specs.Sums.{most_arrivals};
-ghost use Rattle.vessels.specs.Vessels.{storage as storage_of, tank_head as head_of, tank_state, tank_flows};
+ghost use Rattle.vessels.specs.Vessels.{storage as storage_of, tank_head as head_of, tank_state};
+ghost use Rattle.vessels.specs.Vessels.{tank_flows};
 
 use case_model::{Arrival, NodeState};
 use fixed_num::rnd;

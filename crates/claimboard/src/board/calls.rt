@@ -1,6 +1,7 @@
 //! The calls on a board, each with a seat.
 ghost use Rattle.std.specs.Prelude.{◌≡◌, ◌<◌, true, false, Some, None, IfSome, IfNone, IsTrue};
-ghost use Rattle.claimboard.specs.Views.{view, IsOf, IsSameSeat, found_view, holding, finished_word, Has, KnowsAll, OnlyLoaded, FoundUnfinished};
+ghost use Rattle.claimboard.specs.Views.{view, IsOf, IsSameSeat, found_view, holding};
+ghost use Rattle.claimboard.specs.Views.{finished_word, Has, KnowsAll, OnlyLoaded, FoundUnfinished};
 ghost use Rattle.claimboard.specs.Answers.{Answers};
 
 use super::Board;

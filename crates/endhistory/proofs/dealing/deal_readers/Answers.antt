@@ -6,7 +6,7 @@ use Rattle.endhistory.specs.declared.views.View.{View}
 use Rattle.endhistory.specs.declared.history.Reader.{Reader}
 use Rattle.endhistory.specs.Tells.{Here, dealing, dealt_of}
 use Rattle.endhistory.specs.Seats.{Place, IsNewReader, blocks_of, reading, reading_of, number_of, number_in}
-use Rattle.endhistory.proofs.InARow.{range_more, all_one}
+use Rattle.endhistory.proofs.InARow.{numbers_more, all_one}
 use Rattle.endhistory.proofs.dealing.deal_readers.Goals as goal
 
 pub loop-number-preserved : goal.loop-number-preserved
@@ -33,5 +33,5 @@ loop-number-preserved c =
       c.add_reader-place.ensures.seat.1 ∙ ap dealing inv.1,
       search rules,
       subst (λ (rs : List Reader). All New rs) (sym items) (All-append New c.loop-number.readers.items (reader ∷ []) inv.3 (all_one New reader new)),
-      ap (map number) items ∙ map-append number c.loop-number.readers.items (reader ∷ []) ∙ ap (λ (l : List ℕ). l ++ number_of reader.seat ∷ []) inv.4 ∙ ap (λ (k : ℕ). range_with_len 0 n ++ k ∷ []) numbered ∙ sym (range_more n),
+      ap (map number) items ∙ map-append number c.loop-number.readers.items (reader ∷ []) ∙ ap (λ (l : List ℕ). l ++ number_of reader.seat ∷ []) inv.4 ∙ ap (λ (k : ℕ). range_with_len 0 n ++ k ∷ []) numbered ∙ numbers_more [] n,
     )

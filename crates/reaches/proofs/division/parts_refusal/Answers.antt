@@ -6,7 +6,7 @@ use Rattle.reaches.proofs.division.parts_refusal.Goals as goal
 pub returns : goal.returns
 unfolding part_rules
 returns c =
-    let case = c.args.case.now in
+    let case = c.args.decided.now.case.now in
     let pipes = any_below (pipe_rules case) (length case.pipes) in
     let nodes = any_below (node_rules case) (length case.nodes) in
     let probes = any_below (probe_rules case) (length case.probes) in

@@ -5,7 +5,7 @@ use Rattle.reaches.proofs.meshing.pipe_meshes.Given as goal
 
 abbrev pub invariant-loop-pipe : goal.invariant-loop-pipe
 invariant-loop-pipe l = record {
-  meshes : l.meshes.items ≡ map (pipe_mesh l.case) (range_with_len 0 l.pipe);
-  base : l.base ≡ place_base l.case l.pipe;
+  meshes : l.meshes.items ≡ map (pipe_mesh l.decided.case.now) (range_with_len 0 l.pipe);
+  base : l.base ≡ place_base l.decided.case.now l.pipe;
   few : l.base ≤ 4_096 + 65_537 * l.pipe;
 }

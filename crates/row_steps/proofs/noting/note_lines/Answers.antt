@@ -1,7 +1,7 @@
 use Rattle.std.proofs.Common.{List, ◌≡◌, ◌∙◌, ◌+◌, ◌<◌, length, get_or, ap, subst, sym, arith}
 use Rattle.case_model.specs.declared.meshes.PipeMesh.{PipeMesh}
 use Rattle.case_model.specs.Mesh.{no_pipe, base_of, places_before}
-use Rattle.envelope.specs.CellLaws.{in-first}
+use Rattle.envelope.proofs.CellLaws.{in-first}
 use Rattle.envelope.specs.Folds.{Stands, spans_of}
 use Rattle.row_steps.specs.Noting.{before_place, HasLine}
 use Rattle.row_steps.proofs.Cut.{row-same, same-on, line-at, line-end, line-fits, below-places}

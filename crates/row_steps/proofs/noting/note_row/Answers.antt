@@ -1,5 +1,5 @@
 use Rattle.std.proofs.Common.{subst, arith}
-use Rattle.envelope.specs.CellLaws.{within-first}
+use Rattle.envelope.proofs.CellLaws.{within-first}
 use Rattle.envelope.specs.Folds.{Stands, spans_of}
 use Rattle.row_steps.specs.Noting.{before_place}
 use Rattle.row_steps.proofs.Cut.{nodes-fit}

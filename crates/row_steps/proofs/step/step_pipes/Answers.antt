@@ -5,7 +5,8 @@ use Rattle.case_model.specs.Places.{is_bad}
 use Rattle.case_model.proofs.RowLaws.{pipe-at, length-all_points}
 use Rattle.case_model.specs.Rows.{points, all_points}
 use Rattle.row_steps.proofs.Filling.{filled-more, filled-all, any-step, any-all}
-use Rattle.row_steps.proofs.Stepped.{length-joints, joint-in, first-given, last-given}
+use Rattle.case_model.proofs.Joining.{length-joints}
+use Rattle.row_steps.proofs.Stepped.{joint-in, first-given, last-given}
 use Rattle.row_steps.proofs.step.step_pipes.Goals as goal
 
 pub loop-pipe-init : goal.loop-pipe-init

@@ -3,7 +3,7 @@ use Rattle.std.proofs.lemmas.List.{get_or_read}
 use Rattle.envelope.specs.Cells.{no_span}
 use Rattle.envelope.specs.Changes.{AreJoined}
 use Rattle.envelope.specs.Folds.{spans_of}
-use Rattle.envelope.specs.CellLaws.{within-span}
+use Rattle.envelope.proofs.CellLaws.{within-span}
 use Rattle.envelope.proofs.Merged.{joined-on}
 use Rattle.envelope.proofs.folds.Fold.merge_span.Goals as goal
 
