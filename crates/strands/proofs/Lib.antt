@@ -1,2 +1,3 @@
 mod Advancing
+mod Handing
 mod Marking

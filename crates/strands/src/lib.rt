@@ -1,6 +1,8 @@
 //! The strands of a layout: how each computes its regions of space and time from the blocks of its neighbours.
 #![tactic(auto)]
 
+mod blocks;
 mod sections;
 
+pub use blocks::write_side;
 pub use sections::{advance, advance_region, advance_start};

@@ -1,0 +1,64 @@
+//! What a section hands on to its stations: the points beside them, as words.
+ghost use Rattle.std.specs.Prelude.{◌≡◌, ℕ, ◌+◌, ◌-◌, ◌*◌, ◌^◌, ◌<◌, ◌≤◌, length};
+ghost use Rattle.case_model.specs.Meaning.{Meaning};
+ghost use Rattle.case_model.specs.Range.{IsPoint};
+ghost use Rattle.case_model.specs.declared.points.Point.{Point as PointSeen};
+ghost use Rattle.case_model.specs.Words.{words_of};
+ghost use Rattle.fronts.specs.Fronts.{Holds, ever, tent};
+ghost use Rattle.fronts.specs.Stretches.{count_of};
+ghost use Rattle.strands.specs.Words.{HasPoints, IsWritten, from_end as end_place, quad, section_side};
+
+use case_model::{Point, from_words, to_words};
+use fronts::Stretch;
+
+/// Writes the block of a section for its left or its right side: the points beside the station at that side, over the
+/// window of so many steps after `start`, as words.
+pub fn write_side(stretch: &Stretch, left: bool, window: usize, start: u64, out: &mut [u64])
+    requires each { length out.old ≡ 4 * window }
+    requires long { window + 1 ≤ count_of stretch.now }
+    requires room { start + window < 2 ^ 64 }
+    ensures { (law : Meaning) → Holds law ever (tent start (count_of stretch.now - 1)) stretch.now →
+        HasPoints window (section_side law stretch.now left start) out.new }
+{
+    let last = stretch.count() - 1;
+    for j in 0..window {
+        let point = stretch.point(start + (j as u64).div_ceil(2), from_end(left, last, j / 2 + 1));
+        put_point(out, j, &point);
+    }
+}
+
+// The place at a distance from the left or the right end of a stretch of so many reaches.
+fn from_end(left: bool, reaches: usize, distance: usize) -> usize
+    requires { distance ≤ reaches }
+    ensures { result ≡ end_place left reaches distance }
+{
+    if left { distance } else { reaches - distance }
+}
+
+// Writes the words of a point.
+fn put_point(words: &mut [u64], index: usize, point: &Point)
+    requires inside { 4 * index + 4 ≤ length words.old }
+    requires in_range { IsPoint point.now }
+    ensures { IsWritten index point.now words.old words.new }
+{
+    let four = to_words(point);
+    words[4 * index] = four[0];
+    words[4 * index + 1] = four[1];
+    words[4 * index + 2] = four[2];
+    words[4 * index + 3] = four[3];
+}
+
+// The point of these words; Bad where no point has them.
+fn point_in(words: &[u64], index: usize) -> Point
+    requires inside { 4 * index + 4 ≤ length words.now }
+    ensures point { (point : PointSeen) → IsPoint point → quad words.now index ≡ words_of point →
+        result ≡ point }
+    ensures in_range { IsPoint result }
+{
+    let i = 4 * index;
+    let four = [words[i], words[i + 1], words[i + 2], words[i + 3]];
+    match from_words(&four) {
+        Some(point) => point,
+        None => Point::Bad,
+    }
+}
