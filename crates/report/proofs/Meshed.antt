@@ -15,6 +15,7 @@ use Rattle.case_model.specs.Sets.{AreEmpty}
 use Rattle.regions.specs.LaidOut.{IsCutFor, IsLaidOut}
 use Rattle.regions.specs.Regions.{IsWhole}
 use Rattle.regions.specs.declared.shapes.Layout.{Layout}
+use Rattle.report.proofs.Fitting.{KeptLaw, PartsLaw}
 use Rattle.report.specs.MeshText.{IsMeshed, division_of}
 
 -- ---- the friction of a reach
@@ -45,12 +46,6 @@ unfolding pipe_mesh
 part-friction case p = refl
 
 -- ---- the laws of accepted cases and of their cuts
-
-abbrev pub KeptLaw : Type 0
-KeptLaw = (case : Case) → AreEmpty (passes case) → IsKept case
-
-abbrev pub PartsLaw : Type 0
-PartsLaw = (case : Case) → HasParts case (mesh_of case)
 
 abbrev pub WholeLaw : Type 0
 WholeLaw = (layout : Layout) (mesh : Mesh) → IsLaidOut layout mesh → IsWhole layout
