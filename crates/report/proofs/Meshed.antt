@@ -6,12 +6,10 @@ use Rattle.std.proofs.lemmas.Int.{ints}
 use Rattle.case_model.specs.declared.cases.Case.{Case}
 use Rattle.case_model.specs.declared.meshes.Mesh.{Mesh}
 use Rattle.case_model.specs.declared.meshes.PipeMesh.{PipeMesh}
-use Rattle.case_model.specs.Division.{are_accepted, divides, has_coefficients, is_adjusted, is_count, mesh_of, pipe_mesh, reaches_at}
+use Rattle.case_model.specs.Division.{are_accepted, divides, has_coefficients, is_adjusted, is_count, pipe_mesh, reaches_at}
 use Rattle.case_model.specs.Formulas.{b_of, r_of, reach_count}
-use Rattle.case_model.specs.Kept.{IsKept, HasParts}
+use Rattle.case_model.specs.Kept.{HasParts}
 use Rattle.case_model.specs.Parts.{pipe_at}
-use Rattle.case_model.specs.Refusals.{passes}
-use Rattle.case_model.specs.Sets.{AreEmpty}
 use Rattle.regions.specs.LaidOut.{IsCutFor, IsLaidOut}
 use Rattle.regions.specs.Regions.{IsWhole}
 use Rattle.regions.specs.declared.shapes.Layout.{Layout}

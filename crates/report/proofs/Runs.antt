@@ -1,7 +1,5 @@
 -- Fields one behind the other in a line.
-use Rattle.std.proofs.Common.{ℕ, ◌≡◌, ◌∙◌, List, [], ◌∷◌, ◌++◌, ap, sym, append_assoc, append-nil}
-use Rattle.std.specs.List.{join_with_byte}
-use Rattle.std.proofs.lemmas.Grind.{flat_map-append}
+use Rattle.std.proofs.Common.{ℕ, ◌≡◌, ◌∙◌, List, [], ◌∷◌, ◌++◌, ap, sym, append_assoc}
 use Rattle.surge_io.specs.Fields.{line_of, fields_text}
 use Rattle.surge_io.proofs.FieldTexts.{fields_of_both, joined_fields}
 

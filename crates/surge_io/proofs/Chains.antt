@@ -5,7 +5,7 @@ use Rattle.std.specs.List.{flat_map, range_with_len}
 use Rattle.std.proofs.lemmas.Grind.{flat_map-append}
 use Rattle.std.proofs.lemmas.List.{take_all, take_more, take-append-drop}
 use Rattle.surge_io.specs.Faults.{Rose}
-use Rattle.surge_io.specs.Bytes.{Appends, AppendsFront}
+use Rattle.surge_io.specs.Bytes.{AppendsFront}
 use Rattle.surge_io.specs.Pages.{Adds, AddsFront, Passes}
 use Rattle.surge_io.specs.Writings.{IsAdded, IsFinished, IsWritten}
 use Rattle.surge_io.proofs.Passing.{Adds-nothing, Adds-then, AddsFront-then, AddsFront-more, adds_front, adds_nothing, adds_written, finishes_all, finishes_front}

@@ -1,5 +1,5 @@
 -- Texts that pass through a page, which keeps the last bytes back until it is full.
-use Rattle.std.specs.Prelude.{◌≡◌, ℕ, List, [], ◌++◌, Option}
+use Rattle.std.specs.Prelude.{◌≡◌, ℕ, List, ◌++◌, Option}
 use Rattle.surge_io.specs.Bytes.{Appends, AppendsFront}
 
 -- of a text that began when the sink held `start`, all has come so far: what the sink got since,

@@ -1,4 +1,4 @@
-use Rattle.std.proofs.Common.{◌≡◌, ◌∙◌, ◌∷◌, ◌++◌, [], ap, refl, sym, append_assoc}
+use Rattle.std.proofs.Common.{◌≡◌, ◌∙◌, ◌∷◌, ◌++◌, [], refl, sym, append_assoc}
 use Rattle.std.specs.List.{flat_map}
 use Rattle.surge_io.proofs.Chains.{has_added, stopped, then_added}
 use Rattle.case_writing.specs.CaseText.{entry_text, table_text, table_word}
