@@ -1,21 +1,36 @@
 -- What the fields of a line must be, by the word with which it begins.
-use Rattle.std.specs.Prelude.{ℕ, ◌+◌, ◌-◌, ◌*◌, ◌%◌, ◌==◌, ◌&&◌, ◌||◌, nat_lt, nat_le, Bool, false, if◌then◌else◌, List, [], ◌∷◌, length, slice_index_or, codes}
+use Rattle.std.specs.Prelude.{ℕ, ◌+◌, ◌-◌, ◌*◌, ◌%◌, ◌==◌, ◌&&◌, ◌||◌, nat_lt, nat_le, Bool, false}
+use Rattle.std.specs.Prelude.{if◌then◌else◌, List, [], ◌∷◌, length, slice_index_or, codes}
 use Rattle.std.specs.List.{list_all}
 use Rattle.std.specs.Char.{is_ascii_alphanumeric}
 use Rattle.std.specs.Str.{bytes_eq}
 use Rattle.case_model.specs.declared.cases.TableKind.{TableKind}
-use Rattle.case_model.specs.declared.cases.TableKind.TheVariants.{Heads, Flows, Openings, Speeds, Curve, Gas}
+use Rattle.case_model.specs.declared.cases.TableKind.TheVariants.{Heads, Flows, Openings, Speeds}
+use Rattle.case_model.specs.declared.cases.TableKind.TheVariants.{Curve, Gas}
 use Rattle.case_model.specs.Limits.{least_entries, most_entries}
 use Rattle.case_lines.specs.declared.words.Single.{Single}
-use Rattle.case_lines.specs.declared.words.Single.TheVariants.{Step, Steps, Vapour, Weight, Tolerance, Every, FrictionForm}
+use Rattle.case_lines.specs.declared.words.Single.TheVariants.{Step, Steps, Vapour, Weight}
+use Rattle.case_lines.specs.declared.words.Single.TheVariants.{Tolerance, Every, FrictionForm}
 use Rattle.case_lines.specs.declared.words.NodeWord.{NodeWord}
-use Rattle.case_lines.specs.declared.words.NodeWord.TheVariants.{Reservoir, Junction, Discharge, Inline, Pump, Tank, Vessel}
+use Rattle.case_lines.specs.declared.words.NodeWord.TheVariants.{Reservoir, Junction, Discharge}
+use Rattle.case_lines.specs.declared.words.NodeWord.TheVariants.{Inline, Pump, Tank, Vessel}
 use Rattle.case_lines.specs.declared.words.Directive.{Directive}
-use Rattle.case_lines.specs.declared.words.Directive.TheVariants.{OfSingle, OfTable, OfNode, OfPipe, OfProbe, OfWatch}
+use Rattle.case_lines.specs.declared.words.Directive.TheVariants.{OfSingle, OfTable, OfNode, OfPipe}
+use Rattle.case_lines.specs.declared.words.Directive.TheVariants.{OfProbe, OfWatch}
 use Rattle.case_lines.specs.declared.quantities.Quantity.{Quantity}
-use Rattle.case_lines.specs.declared.quantities.Quantity.TheVariants.{TimeStep, StepCount, VapourHead, GrowthWeight, SpeedTolerance, SampleStep, Time, Head, Flow, Opening, SpeedRatio, CurveFlow, CurveRise, Volume, Elevation, ValveFlow, ValveLoss, Area, Length, Diameter, WaveSpeed, FrictionFactor, PipePlace}
+use Rattle.case_lines.specs.declared.quantities.Quantity.TheVariants.{TimeStep, StepCount}
+use Rattle.case_lines.specs.declared.quantities.Quantity.TheVariants.{VapourHead, GrowthWeight}
+use Rattle.case_lines.specs.declared.quantities.Quantity.TheVariants.{SpeedTolerance, SampleStep}
+use Rattle.case_lines.specs.declared.quantities.Quantity.TheVariants.{Time, Head, Flow, Opening}
+use Rattle.case_lines.specs.declared.quantities.Quantity.TheVariants.{SpeedRatio, CurveFlow}
+use Rattle.case_lines.specs.declared.quantities.Quantity.TheVariants.{CurveRise, Volume, Elevation}
+use Rattle.case_lines.specs.declared.quantities.Quantity.TheVariants.{ValveFlow, ValveLoss, Area}
+use Rattle.case_lines.specs.declared.quantities.Quantity.TheVariants.{Length, Diameter, WaveSpeed}
+use Rattle.case_lines.specs.declared.quantities.Quantity.TheVariants.{FrictionFactor, PipePlace}
 use Rattle.case_lines.specs.declared.fields.FieldKind.{FieldKind}
-use Rattle.case_lines.specs.declared.fields.FieldKind.TheVariants.{NewName, NodeName, PipeName, Reference, Number, Value, FrictionWord}
+use Rattle.case_lines.specs.declared.fields.FieldKind.TheVariants.{NewName, NodeName, PipeName}
+use Rattle.case_lines.specs.declared.fields.FieldKind.TheVariants.{Reference, Number, Value}
+use Rattle.case_lines.specs.declared.fields.FieldKind.TheVariants.{FrictionWord}
 
 -- a field by its place, counted from 0; an empty one where there is none
 abbrev pub field : List (List ℕ) → ℕ → List ℕ
@@ -85,15 +100,19 @@ second_quantity Gas = Head
 abbrev pub node_fields : NodeWord → List FieldKind
 node_fields Reservoir = Value Head Heads ∷ []
 node_fields Junction = Value Flow Flows ∷ Number Head ∷ []
-node_fields Discharge = Number ValveFlow ∷ Number ValveLoss ∷ Number Head ∷ Value Opening Openings ∷ Number Head ∷ []
-node_fields Inline = Number ValveFlow ∷ Number ValveLoss ∷ Value Opening Openings ∷ Number Head ∷ Number Head ∷ []
+node_fields Discharge =
+    Number ValveFlow ∷ Number ValveLoss ∷ Number Head ∷ Value Opening Openings ∷ Number Head ∷ []
+node_fields Inline =
+    Number ValveFlow ∷ Number ValveLoss ∷ Value Opening Openings ∷ Number Head ∷ Number Head ∷ []
 node_fields Pump = Reference Curve ∷ Value SpeedRatio Speeds ∷ Number Head ∷ Number Head ∷ []
 node_fields Tank = Number Area ∷ Number Head ∷ []
 node_fields Vessel = Reference Gas ∷ Number Volume ∷ []
 
 -- name, first node, last node, length, diameter, wave speed, friction and start flow of a pipe
 abbrev pub pipe_fields : List FieldKind
-pipe_fields = NewName ∷ NodeName ∷ NodeName ∷ Number Length ∷ Number Diameter ∷ Number WaveSpeed ∷ Number FrictionFactor ∷ Number Flow ∷ []
+pipe_fields =
+    NewName ∷ NodeName ∷ NodeName ∷ Number Length ∷ Number Diameter ∷ Number WaveSpeed
+    ∷ Number FrictionFactor ∷ Number Flow ∷ []
 
 -- pipe and place of a probe
 abbrev pub probe_fields : List FieldKind

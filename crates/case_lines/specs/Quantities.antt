@@ -1,16 +1,26 @@
 -- The quantities that a case text gives in numbers: their units and limits.
-use Rattle.std.specs.Prelude.{ℕ, ℤ, pos, neg_ℤ, int_le, ◌&&◌, not, Bool, true, false, Result, Ok, Err, List}
+use Rattle.std.specs.Prelude.{ℕ, ℤ, pos, neg_ℤ, int_le, ◌&&◌, not, Bool, true, false, Result, Ok}
+use Rattle.std.specs.Prelude.{Err, List}
 use Rattle.fixed_num.specs.Decimal.{number_of}
 use Rattle.fixed_num.specs.declared.decimal.NumberFault.{NumberFault}
 use Rattle.fixed_num.specs.declared.decimal.NumberFault.TheVariants.{Spelling, Places, Large}
 use Rattle.case_lines.specs.declared.quantities.NumberLimits.{NumberLimits}
 use Rattle.case_lines.specs.declared.quantities.Quantity.{Quantity}
-use Rattle.case_lines.specs.declared.quantities.Quantity.TheVariants.{TimeStep, StepCount, VapourHead, GrowthWeight, SpeedTolerance, SampleStep, Time, Head, Flow, Opening, SpeedRatio, CurveFlow, CurveRise, Volume, Elevation, ValveFlow, ValveLoss, Area, Length, Diameter, WaveSpeed, FrictionFactor, PipePlace}
+use Rattle.case_lines.specs.declared.quantities.Quantity.TheVariants.{TimeStep, StepCount}
+use Rattle.case_lines.specs.declared.quantities.Quantity.TheVariants.{VapourHead, GrowthWeight}
+use Rattle.case_lines.specs.declared.quantities.Quantity.TheVariants.{SpeedTolerance, SampleStep}
+use Rattle.case_lines.specs.declared.quantities.Quantity.TheVariants.{Time, Head, Flow, Opening}
+use Rattle.case_lines.specs.declared.quantities.Quantity.TheVariants.{SpeedRatio, CurveFlow}
+use Rattle.case_lines.specs.declared.quantities.Quantity.TheVariants.{CurveRise, Volume, Elevation}
+use Rattle.case_lines.specs.declared.quantities.Quantity.TheVariants.{ValveFlow, ValveLoss, Area}
+use Rattle.case_lines.specs.declared.quantities.Quantity.TheVariants.{Length, Diameter, WaveSpeed}
+use Rattle.case_lines.specs.declared.quantities.Quantity.TheVariants.{FrictionFactor, PipePlace}
 
 abbrev pub limited : ℕ → ℤ → ℤ → NumberLimits
 limited places least most = record { places = places; least = least; most = most }
 
--- the digits after the point of each quantity, and its least and greatest number in the unit that these give
+-- the digits after the point of each quantity, and its least and greatest number in the unit that
+-- these give
 abbrev pub limits : Quantity → NumberLimits
 limits TimeStep = limited 6 (pos 1) (pos 1_000_000)
 limits StepCount = limited 0 (pos 1) (pos 100_000_000)

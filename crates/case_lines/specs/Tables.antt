@@ -1,11 +1,14 @@
 -- The pairs of the tables, and their order.
-use Rattle.std.specs.Prelude.{ℕ, ◌+◌, ◌-◌, ◌*◌, ◌/◌, ◌&&◌, not, Bool, true, false, ℤ, pos, ◌+ℤ◌, int_le, int_lt, List, map, length}
+use Rattle.std.specs.Prelude.{ℕ, ◌+◌, ◌-◌, ◌*◌, ◌/◌, ◌&&◌, not, Bool, true, false, ℤ, pos, ◌+ℤ◌}
+use Rattle.std.specs.Prelude.{int_le, int_lt, List, map, length}
 use Rattle.std.specs.List.{list_all, range_with_len}
 use Rattle.std.specs.Ordering.{int_eq}
 use Rattle.case_model.specs.declared.cases.TableKind.{TableKind}
-use Rattle.case_model.specs.declared.cases.TableKind.TheVariants.{Heads, Flows, Openings, Speeds, Curve, Gas}
+use Rattle.case_model.specs.declared.cases.TableKind.TheVariants.{Heads, Flows, Openings, Speeds}
+use Rattle.case_model.specs.declared.cases.TableKind.TheVariants.{Curve, Gas}
 use Rattle.case_lines.specs.declared.words.Directive.{Directive}
-use Rattle.case_lines.specs.declared.words.Directive.TheVariants.{OfSingle, OfTable, OfNode, OfPipe, OfProbe, OfWatch}
+use Rattle.case_lines.specs.declared.words.Directive.TheVariants.{OfSingle, OfTable, OfNode, OfPipe}
+use Rattle.case_lines.specs.declared.words.Directive.TheVariants.{OfProbe, OfWatch}
 use Rattle.case_lines.specs.Quantities.{amount}
 use Rattle.case_lines.specs.Fields.{field, first_quantity, second_quantity}
 
@@ -15,7 +18,11 @@ pair_count n = (n - 2) / 2
 
 -- pair j of a table, counted from 0
 unfoldable pub pair_at : TableKind → List (List ℕ) → ℕ → ℤ × ℤ
-pair_at kind fields j = (amount (first_quantity kind) (field fields (2 * j + 2)), amount (second_quantity kind) (field fields (2 * j + 3)))
+pair_at kind fields j = (
+  amount (first_quantity kind) (field fields (2 * j + 2)),
+  amount (second_quantity kind)
+      (field fields (2 * j + 3)),
+)
 
 -- the pairs of a table, in file order
 unfoldable pub pairs_of : TableKind → List (List ℕ) → List (ℤ × ℤ)
@@ -54,11 +61,14 @@ may_begin Gas first = true
 
 -- whether the first n pairs of a table follow one another
 unfoldable pub follow : TableKind → List (List ℕ) → ℕ → Bool
-follow kind fields n = list_all (λ j. may_follow kind (pair_at kind fields j) (pair_at kind fields (j + 1))) (range_with_len 0 (n - 1))
+follow kind fields n =
+    list_all (λ j. may_follow kind (pair_at kind fields j) (pair_at kind fields (j + 1)))
+    (range_with_len 0 (n - 1))
 
 -- whether the pairs of a table are in order
 unfoldable pub is_ordered : TableKind → List (List ℕ) → Bool
-is_ordered kind fields = may_begin kind (pair_at kind fields 0) && follow kind fields (pair_count (length fields))
+is_ordered kind fields =
+    may_begin kind (pair_at kind fields 0) && follow kind fields (pair_count (length fields))
 
 -- whether a line is a table that is not in order
 unfoldable pub is_disordered : Directive → List (List ℕ) → Bool

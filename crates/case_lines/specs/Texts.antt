@@ -1,5 +1,6 @@
 -- The lines of a case text, and the fields of a line.
-use Rattle.std.specs.Prelude.{ℕ, ◌-◌, ◌==◌, ◌||◌, nat_lt, Bool, if◌then◌else◌, List, [], ◌∷◌, length, take, filter, slice_index_or}
+use Rattle.std.specs.Prelude.{ℕ, ◌-◌, ◌==◌, ◌||◌, nat_lt, Bool, if◌then◌else◌, List, [], ◌∷◌}
+use Rattle.std.specs.Prelude.{length, take, filter, slice_index_or}
 use Rattle.std.specs.List.{slice_split, before_first}
 
 -- the lines among the parts between line ends: an empty part behind the last line end is no line
@@ -14,7 +15,8 @@ text_lines bytes = lines_between (slice_split (λ b. b == 10) bytes)
 
 -- a line without the carriage return at its end, where it has one
 abbrev pub without_return : List ℕ → List ℕ
-without_return line = if slice_index_or line (length line - 1) 0 == 13 then take (length line - 1) line else line
+without_return line =
+    if slice_index_or line (length line - 1) 0 == 13 then take (length line - 1) line else line
 
 -- a line without its comment, which begins at the first number sign
 abbrev pub without_comment : List ℕ → List ℕ

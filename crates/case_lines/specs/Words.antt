@@ -1,16 +1,21 @@
 -- The words with which lines begin.
-use Rattle.std.specs.Prelude.{ℕ, ◌==◌, not, Bool, true, Option, Some, None, if◌then◌else◌, List, codes}
+use Rattle.std.specs.Prelude.{ℕ, ◌==◌, not, Bool, true, Option, Some, None, if◌then◌else◌, List}
+use Rattle.std.specs.Prelude.{codes}
 use Rattle.std.specs.Str.{bytes_eq}
 use Rattle.case_model.specs.declared.cases.Friction.{Friction}
 use Rattle.case_model.specs.declared.cases.Friction.TheVariants.{Explicit, Linear}
 use Rattle.case_model.specs.declared.cases.TableKind.{TableKind}
-use Rattle.case_model.specs.declared.cases.TableKind.TheVariants.{Heads, Flows, Openings, Speeds, Curve, Gas}
+use Rattle.case_model.specs.declared.cases.TableKind.TheVariants.{Heads, Flows, Openings, Speeds}
+use Rattle.case_model.specs.declared.cases.TableKind.TheVariants.{Curve, Gas}
 use Rattle.case_lines.specs.declared.words.Single.{Single}
-use Rattle.case_lines.specs.declared.words.Single.TheVariants.{Step, Steps, Vapour, Weight, Tolerance, Every, FrictionForm}
+use Rattle.case_lines.specs.declared.words.Single.TheVariants.{Step, Steps, Vapour, Weight}
+use Rattle.case_lines.specs.declared.words.Single.TheVariants.{Tolerance, Every, FrictionForm}
 use Rattle.case_lines.specs.declared.words.NodeWord.{NodeWord}
-use Rattle.case_lines.specs.declared.words.NodeWord.TheVariants.{Reservoir, Junction, Discharge, Inline, Pump, Tank, Vessel}
+use Rattle.case_lines.specs.declared.words.NodeWord.TheVariants.{Reservoir, Junction, Discharge}
+use Rattle.case_lines.specs.declared.words.NodeWord.TheVariants.{Inline, Pump, Tank, Vessel}
 use Rattle.case_lines.specs.declared.words.Directive.{Directive}
-use Rattle.case_lines.specs.declared.words.Directive.TheVariants.{OfSingle, OfTable, OfNode, OfPipe, OfProbe, OfWatch}
+use Rattle.case_lines.specs.declared.words.Directive.TheVariants.{OfSingle, OfTable, OfNode, OfPipe}
+use Rattle.case_lines.specs.declared.words.Directive.TheVariants.{OfProbe, OfWatch}
 
 -- the single directive of this word, if any
 unfoldable pub single_of : List ℕ → Option Single
@@ -92,7 +97,8 @@ has_directive version OfWatch = true
 -- a directive where a version of the case text has it
 abbrev pub directive_in : ℕ → Option Directive → Option Directive
 directive_in version None = None
-directive_in version (Some directive) = if has_directive version directive then Some directive else None
+directive_in version (Some directive) =
+    if has_directive version directive then Some directive else None
 
 -- how friction is taken, by its word, if any
 unfoldable pub friction_of : List ℕ → Option Friction

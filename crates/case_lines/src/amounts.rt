@@ -1,6 +1,9 @@
 //! Numbers that fields give.
 ghost use Rattle.std.specs.Prelude.{◌≡◌, ◌≤◌, unsigned_abs, IfOk, not, ◌&&◌, int_le};
-ghost use Rattle.case_lines.specs.Quantities.{quantity_in as quantity_says, is_spelt as is_spelled, is_outside as lies_outside, number_or_zero as number_of_result, amount as amount_of};
+ghost use Rattle.case_lines.specs.Quantities.{quantity_in as quantity_says, is_spelt as is_spelled};
+ghost use Rattle.case_lines.specs.Quantities.{is_outside as lies_outside};
+ghost use Rattle.case_lines.specs.Quantities.{number_or_zero as number_of_result};
+ghost use Rattle.case_lines.specs.Quantities.{amount as amount_of};
 
 use crate::quantities::{NumberLimits, Quantity, limits};
 use fixed_num::{NumberFault, read_decimal};

@@ -1,7 +1,12 @@
 //! The lines of a text and the fields of a line.
-ghost use Rattle.std.specs.Prelude.{◌≡◌, ◌-◌, ◌==◌, ◌<◌, ◌≤◌, ◌∷◌, ◌++◌, [], if◌then◌else◌, MatchOption, IfNone, IfOk, length, map, take, filter, slice_index_or};
+ghost use Rattle.std.specs.Prelude.{◌≡◌, ◌-◌, ◌==◌, ◌<◌, ◌≤◌, ◌∷◌, ◌++◌, [], if◌then◌else◌};
+ghost use Rattle.std.specs.Prelude.{MatchOption, IfNone, IfOk, length, map, take, filter};
+ghost use Rattle.std.specs.Prelude.{slice_index_or};
 ghost use Rattle.std.specs.List.{slice_split, position_or_len};
-ghost use Rattle.case_lines.specs.Texts.{text_lines, without_return as returned, without_comment as uncommented, is_blank as blank, is_some as has_bytes, parts_of as parts, fields_of as fields};
+ghost use Rattle.case_lines.specs.Texts.{text_lines, without_return as returned};
+ghost use Rattle.case_lines.specs.Texts.{without_comment as uncommented, is_blank as blank};
+ghost use Rattle.case_lines.specs.Texts.{is_some as has_bytes, parts_of as parts};
+ghost use Rattle.case_lines.specs.Texts.{fields_of as fields};
 
 use std::alloc::{AllocError, Global};
 
@@ -10,7 +15,8 @@ use std::alloc::{AllocError, Global};
 pub fn cut_line(text: &[u8]) -> Option<(&[u8], &[u8])>
     ensures { MatchOption result
         (text_lines text.now ≡ [])
-        (λ r. (text_lines text.now ≡ r.0.now ∷ text_lines r.1.now) × (length r.1.now < length text.now)) }
+        (λ r. (text_lines text.now ≡ r.0.now ∷ text_lines r.1.now)
+        × (length r.1.now < length text.now)) }
 {
     if text.is_empty() {
         return None;
@@ -47,7 +53,8 @@ fn parts_of(alloc: Global, text: &[u8]) -> Result<Vec<&[u8]>, AllocError>
 
 // Adds a part that has bytes.
 fn add_part<'a>(found: &mut Vec<&'a [u8]>, part: &'a [u8]) -> Result<(), AllocError>
-    ensures { IfOk result (λ u. map (λ f. f.now) found.new.items ≡ map (λ f. f.now) found.old.items ++ filter has_bytes (part.now ∷ [])) }
+    ensures { IfOk result (λ u. map (λ f. f.now) found.new.items
+        ≡ map (λ f. f.now) found.old.items ++ filter has_bytes (part.now ∷ [])) }
 {
     if !part.is_empty() {
         found.push(part)?;
@@ -80,7 +87,9 @@ fn without_comment(line: &[u8]) -> &[u8]
 fn cut_at_end(text: &[u8]) -> (&[u8], Option<&[u8]>)
     ensures parts { MatchOption result.1
         (slice_split (λ b. b == 10) text.now ≡ result.0.now ∷ [])
-        (λ rest. (slice_split (λ b. b == 10) text.now ≡ result.0.now ∷ slice_split (λ b. b == 10) rest.now) × (length rest.now < length text.now)) }
+        (λ rest. (slice_split (λ b. b == 10) text.now
+        ≡ result.0.now ∷ slice_split (λ b. b == 10) rest.now)
+        × (length rest.now < length text.now)) }
     ensures whole { IfNone result.1 (result.0.now ≡ text.now) }
 {
     let end = mark_place(text, b'\n');
@@ -94,7 +103,8 @@ fn cut_at_end(text: &[u8]) -> (&[u8], Option<&[u8]>)
 fn cut_at_blank(text: &[u8]) -> (&[u8], Option<&[u8]>)
     ensures { MatchOption result.1
         (slice_split blank text.now ≡ result.0.now ∷ [])
-        (λ rest. (slice_split blank text.now ≡ result.0.now ∷ slice_split blank rest.now) × (length rest.now < length text.now)) }
+        (λ rest. (slice_split blank text.now ≡ result.0.now ∷ slice_split blank rest.now)
+        × (length rest.now < length text.now)) }
 {
     let end = blank_place(text);
     if end == text.len() {

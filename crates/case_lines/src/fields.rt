@@ -1,6 +1,8 @@
 //! What the fields of a line must be, by the word with which it begins.
 ghost use Rattle.std.specs.Prelude.{◌≡◌, ◌-◌, ◌==◌, slice_index_or, if◌then◌else◌};
-ghost use Rattle.case_lines.specs.Fields.{single_field, first_quantity, second_quantity, node_fields, pipe_fields, probe_fields, table_field, node_field, field_kind};
+ghost use Rattle.case_lines.specs.Fields.{single_field, first_quantity, second_quantity};
+ghost use Rattle.case_lines.specs.Fields.{node_fields, pipe_fields, probe_fields, table_field};
+ghost use Rattle.case_lines.specs.Fields.{node_field, field_kind};
 
 use crate::quantities::Quantity;
 use crate::words::{Directive, NodeWord, Single};

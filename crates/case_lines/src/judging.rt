@@ -1,8 +1,11 @@
 //! The least rule that a line breaks by itself.
-ghost use Rattle.std.specs.Prelude.{◌≡◌, ◌-◌, ◌≤◌, ◌==◌, ◌&&◌, ◌||◌, ℕ, Bool, true, not, IsTrue, IfSome, length, map};
+ghost use Rattle.std.specs.Prelude.{◌≡◌, ◌-◌, ◌≤◌, ◌==◌, ◌&&◌, ◌||◌, ℕ, Bool, true, not, IsTrue};
+ghost use Rattle.std.specs.Prelude.{IfSome, length, map};
 ghost use Rattle.case_model.specs.Sets.{FindsLeast};
 ghost use Rattle.case_lines.specs.Fields.{has_count, is_heading};
-ghost use Rattle.case_lines.specs.Alone.{breaks_name, breaks_reference, breaks_number, breaks_friction, breaks_field, breaks_fields, breaks_counted, breaks_known, breaks_alone};
+ghost use Rattle.case_lines.specs.Alone.{breaks_name, breaks_reference, breaks_number};
+ghost use Rattle.case_lines.specs.Alone.{breaks_friction, breaks_field, breaks_fields};
+ghost use Rattle.case_lines.specs.Alone.{breaks_counted, breaks_known, breaks_alone};
 
 use crate::amounts::{is_outside, is_spelt, quantity_in};
 use crate::counts::{has_count, has_too_many};
@@ -77,7 +80,8 @@ fn judge_counted(directive: Directive, fields: &[&[u8]]) -> Option<u8>
 // The least rule that the fields behind the word of a line break.
 fn judge_fields(directive: Directive, fields: &[&[u8]]) -> Option<u8>
     requires { 1 ≤ length fields.now }
-    ensures least { FindsLeast (breaks_fields directive (map (λ f. f.now) fields.now) (length fields.now - 1)) result }
+    ensures least { FindsLeast
+        (breaks_fields directive (map (λ f. f.now) fields.now) (length fields.now - 1)) result }
     ensures few { IfSome result (λ n. n ≤ 10) }
 {
     let mut least = None;
@@ -170,7 +174,8 @@ fn judge_friction(text: &[u8]) -> Option<u8>
 pub fn lesser(one: Option<u8>, other: Option<u8>) -> Option<u8>
     ensures least { (some others : ℕ → Bool) → FindsLeast some one → FindsLeast others other →
         FindsLeast (λ n. some n || others n) result }
-    ensures few { IfSome one (λ n. n ≤ 10) → IfSome other (λ n. n ≤ 10) → IfSome result (λ n. n ≤ 10) }
+    ensures few { IfSome one (λ n. n ≤ 10) → IfSome other (λ n. n ≤ 10) →
+        IfSome result (λ n. n ≤ 10) }
 {
     match (one, other) {
         (Some(one), Some(other)) => Some(one.min(other)),

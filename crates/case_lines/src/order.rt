@@ -1,7 +1,13 @@
 //! The pairs of a table and their order.
-ghost use Rattle.std.specs.Prelude.{◌≡◌, ◌+◌, ◌-◌, ◌*◌, ◌/◌, ◌<◌, ◌≤◌, ◌&&◌, not, true, unsigned_abs, length, map};
+ghost use Rattle.std.specs.Prelude.{◌≡◌, ◌+◌, ◌-◌, ◌*◌, ◌/◌, ◌<◌, ◌≤◌, ◌&&◌, not, true};
+ghost use Rattle.std.specs.Prelude.{unsigned_abs, length, map};
 ghost use Rattle.case_lines.specs.Fields.{has_count};
-ghost use Rattle.case_lines.specs.Tables.{pair_count as count_of_pairs, pair_at as pair_said, rises as may_rise, falls as may_fall, may_follow as may_stand_behind, may_begin as may_stand_first, follow as all_follow, is_ordered as is_in_order, is_disordered as is_out_of_order};
+ghost use Rattle.case_lines.specs.Tables.{pair_count as count_of_pairs, pair_at as pair_said};
+ghost use Rattle.case_lines.specs.Tables.{rises as may_rise, falls as may_fall};
+ghost use Rattle.case_lines.specs.Tables.{may_follow as may_stand_behind};
+ghost use Rattle.case_lines.specs.Tables.{may_begin as may_stand_first, follow as all_follow};
+ghost use Rattle.case_lines.specs.Tables.{is_ordered as is_in_order};
+ghost use Rattle.case_lines.specs.Tables.{is_disordered as is_out_of_order};
 
 use crate::amounts::amount;
 use crate::fields::{first_quantity, second_quantity};
@@ -34,7 +40,8 @@ pub fn is_ordered(kind: TableKind, fields: &[&[u8]]) -> bool
 // Whether the pairs of a table follow one another.
 fn follow(kind: TableKind, fields: &[&[u8]]) -> bool
     requires { 4 ≤ length fields.now }
-    ensures { result ≡ all_follow kind (map (λ f. f.now) fields.now) (count_of_pairs (length fields.now)) }
+    ensures { result ≡ all_follow kind (map (λ f. f.now) fields.now)
+        (count_of_pairs (length fields.now)) }
 {
     let mut before = pair_at(kind, fields, 0);
     for pair in 1..(fields.len() - 2) / 2 {

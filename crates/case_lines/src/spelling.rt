@@ -1,8 +1,10 @@
 //! How fields are spelt: names, references and the first line.
-ghost use Rattle.std.specs.Prelude.{◌≡◌, ◌==◌, ◌&&◌, ◌||◌, nat_lt, length, map, slice_index_or, codes};
+ghost use Rattle.std.specs.Prelude.{◌≡◌, ◌==◌, ◌&&◌, ◌||◌, nat_lt, length, map, slice_index_or};
+ghost use Rattle.std.specs.Prelude.{codes};
 ghost use Rattle.std.specs.List.{list_all};
 ghost use Rattle.std.specs.Str.{bytes_eq};
-ghost use Rattle.case_lines.specs.Fields.{field, is_version, is_heading, heading_version, is_name, is_name_byte, is_marked, is_reference, referred};
+ghost use Rattle.case_lines.specs.Fields.{field, is_version, is_heading, heading_version, is_name};
+ghost use Rattle.case_lines.specs.Fields.{is_name_byte, is_marked, is_reference, referred};
 
 /// A field by its place, counted from 0; an empty one where there is none.
 pub fn field<'a>(fields: &[&'a [u8]], place: usize) -> &'a [u8]

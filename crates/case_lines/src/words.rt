@@ -1,6 +1,7 @@
 //! The words with which lines begin, the directives of each version, and the words on friction.
 ghost use Rattle.std.specs.Prelude.{◌≡◌};
-ghost use Rattle.case_lines.specs.Words.{single_of, table_of, node_of, other_of, directive_of, has_single, has_directive, directive_in, friction_of};
+ghost use Rattle.case_lines.specs.Words.{single_of, table_of, node_of, other_of, directive_of};
+ghost use Rattle.case_lines.specs.Words.{has_single, has_directive, directive_in, friction_of};
 
 use case_model::{Friction, TableKind};
 

@@ -1,9 +1,11 @@
 -- The second pass: 8 directive missing, 10 too many parts, both on line 0.
-use Rattle.std.specs.Prelude.{ℕ, ◌==◌, ◌&&◌, ◌||◌, not, nat_lt, Bool, true, false, Option, Some, None, List, codes, count_by}
+use Rattle.std.specs.Prelude.{ℕ, ◌==◌, ◌&&◌, ◌||◌, not, nat_lt, Bool, true, false, Option, Some}
+use Rattle.std.specs.Prelude.{None, List, codes, count_by}
 use Rattle.std.specs.List.{list_any}
 use Rattle.case_model.specs.Sets.{Rules}
 use Rattle.case_lines.specs.declared.words.Directive.{Directive}
-use Rattle.case_lines.specs.declared.words.Directive.TheVariants.{OfSingle, OfTable, OfNode, OfPipe, OfProbe, OfWatch}
+use Rattle.case_lines.specs.declared.words.Directive.TheVariants.{OfSingle, OfTable, OfNode, OfPipe}
+use Rattle.case_lines.specs.declared.words.Directive.TheVariants.{OfProbe, OfWatch}
 use Rattle.case_rules.specs.Said.{said, is_single_of}
 
 -- whether a directive is a table, a node, a pipe, or a probe or watch
@@ -50,12 +52,16 @@ count_of is_such lines = count_by (λ fields. is_such (said fields)) lines
 -- whether there is no time step, no count of steps or no pipe
 unfoldable pub is_incomplete : List (List (List ℕ)) → Bool
 is_incomplete lines =
-    not (list_any (is_single_of (codes "step")) lines) || not (list_any (is_single_of (codes "steps")) lines) || (count_of is_pipe lines == 0)
+    not (list_any (is_single_of (codes "step")) lines)
+    || not (list_any (is_single_of (codes "steps")) lines) || (count_of is_pipe lines == 0)
 
 -- whether there are too many tables, nodes, pipes, or probes and watches
 unfoldable pub is_too_large : List (List (List ℕ)) → Bool
 is_too_large lines =
-    nat_lt 1_024 (count_of is_table lines) || nat_lt 4_096 (count_of is_node lines) || nat_lt 4_096 (count_of is_pipe lines) || nat_lt 256 (count_of is_sampled lines)
+    nat_lt 1_024 (count_of is_table lines) || nat_lt 4_096 (count_of is_node lines)
+    || nat_lt 4_096 (count_of is_pipe lines) || nat_lt 256 (count_of is_sampled lines)
 
 unfoldable pub count_rules : List (List (List ℕ)) → Rules
-count_rules lines line number = (line == 0) && (((number == 8) && is_incomplete lines) || ((number == 10) && is_too_large lines))
+count_rules lines line number =
+    (line == 0) && (((number == 8) && is_incomplete lines)
+    || ((number == 10) && is_too_large lines))

@@ -14,12 +14,16 @@ same_key x y = (x.0 == y.0) && bytes_eq x.1.now y.1.now
 
 -- the names that these lines define, by the number of their kind
 abbrev pub AreNames : {S : Type 0} → HashSet (ℕ × Bor (List ℕ)) S → List (List (List ℕ)) → Type 0
-AreNames names lines = (number : ℕ) (name : Bor (List ℕ)) → contains same_key names (number, name) ≡ list_any (defines_numbered number name.now) lines
+AreNames names lines =
+    (number : ℕ) (name : Bor (List ℕ))
+    → contains same_key names (number, name) ≡ list_any (defines_numbered number name.now) lines
 
 -- the names that these lines define
 abbrev pub AreDefined : {S : Type 0} → HashSet (Bor (List ℕ)) S → List (List (List ℕ)) → Type 0
-AreDefined names lines = (name : Bor (List ℕ)) → contains same_bytes names name ≡ list_any (defines name.now) lines
+AreDefined names lines =
+    (name : Bor (List ℕ)) → contains same_bytes names name ≡ list_any (defines name.now) lines
 
 -- the single directives that these lines have
 abbrev pub AreSingles : {S : Type 0} → HashSet (Bor (List ℕ)) S → List (List (List ℕ)) → Type 0
-AreSingles words lines = (word : Bor (List ℕ)) → contains same_bytes words word ≡ list_any (is_single_of word.now) lines
+AreSingles words lines =
+    (word : Bor (List ℕ)) → contains same_bytes words word ≡ list_any (is_single_of word.now) lines

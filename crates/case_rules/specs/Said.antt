@@ -1,9 +1,12 @@
 -- The lines of a case text by their fields, and what they define.
-use Rattle.std.specs.Prelude.{ℕ, ◌==◌, ◌&&◌, nat_lt, Bool, true, false, Option, Some, None, List, [], length, map, slice_index_or}
+use Rattle.std.specs.Prelude.{ℕ, ◌==◌, ◌&&◌, nat_lt, Bool, true, false, Option, Some, None, List}
+use Rattle.std.specs.Prelude.{[], length, map, slice_index_or}
 use Rattle.std.specs.Str.{bytes_eq}
-use Rattle.case_model.specs.declared.cases.TableKind.TheVariants.{Heads, Flows, Openings, Speeds, Curve, Gas}
+use Rattle.case_model.specs.declared.cases.TableKind.TheVariants.{Heads, Flows, Openings, Speeds}
+use Rattle.case_model.specs.declared.cases.TableKind.TheVariants.{Curve, Gas}
 use Rattle.case_lines.specs.declared.words.Directive.{Directive}
-use Rattle.case_lines.specs.declared.words.Directive.TheVariants.{OfSingle, OfTable, OfNode, OfPipe, OfProbe, OfWatch}
+use Rattle.case_lines.specs.declared.words.Directive.TheVariants.{OfSingle, OfTable, OfNode, OfPipe}
+use Rattle.case_lines.specs.declared.words.Directive.TheVariants.{OfProbe, OfWatch}
 use Rattle.case_lines.specs.Texts.{text_lines, fields_of}
 use Rattle.case_lines.specs.Words.{directive_of}
 use Rattle.case_lines.specs.Fields.{field, heading_version}
@@ -65,7 +68,9 @@ defines name fields = is_definition fields && bytes_eq (field fields 1) name
 
 -- whether a line defines this name for a part of the kind of this number
 unfoldable pub defines_numbered : ℕ → List ℕ → List (List ℕ) → Bool
-defines_numbered number name fields = has_number number (named_by (said fields)) && nat_lt 1 (length fields) && bytes_eq (field fields 1) name
+defines_numbered number name fields =
+    has_number number (named_by (said fields)) && nat_lt 1 (length fields)
+    && bytes_eq (field fields 1) name
 
 -- whether a line defines this name for a part of this kind
 abbrev pub defines_part : Part → List ℕ → List (List ℕ) → Bool

@@ -9,7 +9,8 @@ one_if b = if b then 1 else 0
 
 -- no line is counted
 abbrev pub nothing : Tally
-nothing = record { tables = 0; nodes = 0; pipes = 0; probes = 0; has_step = false; has_steps = false }
+nothing =
+    record { tables = 0; nodes = 0; pipes = 0; probes = 0; has_step = false; has_steps = false }
 
 -- one more line is counted
 unfoldable pub counted : Tally → List (List ℕ) → Tally

@@ -1,10 +1,14 @@
 //! The second pass over a text: the counts of its parts.
-ghost use Rattle.std.specs.Prelude.{◌≡◌, ◌≤◌, ◌+◌, ◌-◌, ◌==◌, ◌||◌, ◌&&◌, not, nat_lt, codes, ℕ, Err, IfOk, length, map};
+ghost use Rattle.std.specs.Prelude.{◌≡◌, ◌≤◌, ◌+◌, ◌-◌, ◌==◌, ◌||◌, ◌&&◌, not, nat_lt, codes, ℕ};
+ghost use Rattle.std.specs.Prelude.{Err, IfOk, length, map};
 ghost use Rattle.std.specs.Str.{bytes_eq};
 ghost use Rattle.case_model.specs.Sets.{FindsLeast, IsEmpty, IsLeast};
 ghost use Rattle.case_rules.specs.Said.{lines_of};
-ghost use Rattle.case_rules.specs.Counts.{is_table as is_table_word, is_node as is_node_word, is_pipe as is_pipe_word, is_sampled as is_sampled_word, count_rules};
-ghost use Rattle.case_rules.specs.Tallies.{one_if as one_where, nothing as nothing_counted, counted as counted_more, tally_of, IsFew};
+ghost use Rattle.case_rules.specs.Counts.{is_table as is_table_word, is_node as is_node_word};
+ghost use Rattle.case_rules.specs.Counts.{is_pipe as is_pipe_word, is_sampled as is_sampled_word};
+ghost use Rattle.case_rules.specs.Counts.{count_rules};
+ghost use Rattle.case_rules.specs.Tallies.{one_if as one_where, nothing as nothing_counted};
+ghost use Rattle.case_rules.specs.Tallies.{counted as counted_more, tally_of, IsFew};
 
 use crate::parts::{is_single_of, said};
 use case_lines::{Directive, cut_line, fields_of};
@@ -33,7 +37,8 @@ pub(crate) struct Tally {
 pub fn judge_counts(alloc: Global, bytes: &[u8]) -> Result<(), CaseFault>
     requires { length bytes.now ≤ 8_388_608 }
     ensures kept { IfOk result (λ u. IsEmpty (count_rules (lines_of bytes.now))) }
-    ensures refused { (number line : ℕ) → result ≡ Err (CaseFault.Refused number line) → IsLeast (count_rules (lines_of bytes.now)) line number }
+    ensures refused { (number line : ℕ) → result ≡ Err (CaseFault.Refused number line) →
+        IsLeast (count_rules (lines_of bytes.now)) line number }
 {
     let tally = count_lines(alloc, bytes)?;
     if is_incomplete(tally) {
@@ -55,7 +60,8 @@ fn is_incomplete(tally: Tally) -> bool
 }
 
 fn is_too_large(tally: Tally) -> bool
-    ensures { result ≡ (nat_lt 1_024 tally.tables || nat_lt 4_096 tally.nodes || nat_lt 4_096 tally.pipes || nat_lt 256 tally.probes) }
+    ensures { result ≡ (nat_lt 1_024 tally.tables || nat_lt 4_096 tally.nodes
+        || nat_lt 4_096 tally.pipes || nat_lt 256 tally.probes) }
 {
     tally.tables > 1_024 || tally.nodes > 4_096 || tally.pipes > 4_096 || tally.probes > 256
 }

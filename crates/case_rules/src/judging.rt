@@ -1,11 +1,16 @@
 //! The least rule that a line breaks, by itself and among the others.
-ghost use Rattle.std.specs.Prelude.{◌≡◌, ◌≤◌, ◌-◌, ◌==◌, ◌||◌, ◌&&◌, not, false, IfOk, List as Items, ℕ, length, map};
+ghost use Rattle.std.specs.Prelude.{◌≡◌, ◌≤◌, ◌-◌, ◌==◌, ◌||◌, ◌&&◌, not, false, IfOk};
+ghost use Rattle.std.specs.Prelude.{List as Items, ℕ, length, map};
 ghost use Rattle.std.specs.List.{list_any};
 ghost use Rattle.case_model.specs.Sets.{FindsLeast};
 ghost use Rattle.case_lines.specs.Fields.{field as field_at};
-ghost use Rattle.case_rules.specs.Said.{version_of, is_definition as is_definition_line, is_single as is_single_line, defines, defines_part, is_single_of};
+ghost use Rattle.case_rules.specs.Said.{version_of, is_definition as is_definition_line};
+ghost use Rattle.case_rules.specs.Said.{is_single as is_single_line, defines, defines_part};
+ghost use Rattle.case_rules.specs.Said.{is_single_of};
 ghost use Rattle.case_rules.specs.Known.{AreNames, AreDefined, AreSingles};
-ghost use Rattle.case_rules.specs.Among.{is_unknown as is_unknown_in, uses_unknown as uses_unknown_in, breaks_counted, breaks_among, breaks_line};
+ghost use Rattle.case_rules.specs.Among.{is_unknown as is_unknown_in};
+ghost use Rattle.case_rules.specs.Among.{uses_unknown as uses_unknown_in, breaks_counted};
+ghost use Rattle.case_rules.specs.Among.{breaks_among, breaks_line};
 
 use crate::parts::{Part, is_definition, is_single, part_number, said};
 use case_lines::{
@@ -14,6 +19,9 @@ use case_lines::{
 };
 use case_model::TableKind;
 use std::collections::HashSet;
+
+// Names with the number of the kind of their parts.
+type Names<'a> = HashSet<(u8, &'a [u8])>;
 
 /// The least rule that a line breaks, by itself and among the others: by the version of the
 /// text, the names and the single directives of the lines before it, and the names of all lines.
@@ -24,7 +32,7 @@ pub(crate) fn judge(
     fields: &[&[u8]],
     defined: &HashSet<&[u8]>,
     singles: &HashSet<&[u8]>,
-    names: &HashSet<(u8, &[u8])>,
+    names: &Names,
 ) -> Option<u8>
     ensures { (before all : Items (Items (Items ℕ))) → version ≡ version_of all →
         AreDefined defined.now before → AreSingles singles.now before → AreNames names.now all →
@@ -48,9 +56,11 @@ fn judge_among(
     fields: &[&[u8]],
     defined: &HashSet<&[u8]>,
     singles: &HashSet<&[u8]>,
-    names: &HashSet<(u8, &[u8])>,
+    names: &Names,
 ) -> Option<u8>
-    ensures { (before all : Items (Items (Items ℕ))) → AreDefined defined.now before → AreSingles singles.now before → AreNames names.now all → FindsLeast (breaks_among before all directive (map (λ f. f.now) fields.now)) result }
+    ensures { (before all : Items (Items (Items ℕ))) → AreDefined defined.now before →
+        AreSingles singles.now before → AreNames names.now all →
+        FindsLeast (breaks_among before all directive (map (λ f. f.now) fields.now)) result }
 {
     let Some(directive) = directive else {
         return None;
@@ -68,9 +78,11 @@ fn judge_counted(
     fields: &[&[u8]],
     defined: &HashSet<&[u8]>,
     singles: &HashSet<&[u8]>,
-    names: &HashSet<(u8, &[u8])>,
+    names: &Names,
 ) -> Option<u8>
-    ensures { (before all : Items (Items (Items ℕ))) → AreDefined defined.now before → AreSingles singles.now before → AreNames names.now all → FindsLeast (breaks_counted before all directive (map (λ f. f.now) fields.now)) result }
+    ensures { (before all : Items (Items (Items ℕ))) → AreDefined defined.now before →
+        AreSingles singles.now before → AreNames names.now all →
+        FindsLeast (breaks_counted before all directive (map (λ f. f.now) fields.now)) result }
 {
     if repeats_name(fields, defined) {
         return Some(6);
@@ -86,21 +98,27 @@ fn judge_counted(
 
 // Whether a line defines a name again.
 fn repeats_name(fields: &[&[u8]], defined: &HashSet<&[u8]>) -> bool
-    ensures { (before : Items (Items (Items ℕ))) → AreDefined defined.now before → result ≡ (is_definition_line (map (λ f. f.now) fields.now) && list_any (defines (field_at (map (λ f. f.now) fields.now) 1)) before) }
+    ensures { (before : Items (Items (Items ℕ))) → AreDefined defined.now before →
+        result ≡ (is_definition_line (map (λ f. f.now) fields.now)
+        && list_any (defines (field_at (map (λ f. f.now) fields.now) 1)) before) }
 {
     is_definition(fields) && defined.contains(&field(fields, 1))
 }
 
 // Whether a line has a single directive again.
 fn repeats_single(fields: &[&[u8]], singles: &HashSet<&[u8]>) -> bool
-    ensures { (before : Items (Items (Items ℕ))) → AreSingles singles.now before → result ≡ (is_single_line (map (λ f. f.now) fields.now) && list_any (is_single_of (field_at (map (λ f. f.now) fields.now) 0)) before) }
+    ensures { (before : Items (Items (Items ℕ))) → AreSingles singles.now before →
+        result ≡ (is_single_line (map (λ f. f.now) fields.now)
+        && list_any (is_single_of (field_at (map (λ f. f.now) fields.now) 0)) before) }
 {
     is_single(fields) && singles.contains(&field(fields, 0))
 }
 
 // Whether a line uses a name that none defines in the kind that is wanted.
-fn uses_unknown(directive: Directive, fields: &[&[u8]], names: &HashSet<(u8, &[u8])>) -> bool
-    ensures { (all : Items (Items (Items ℕ))) → AreNames names.now all → result ≡ uses_unknown_in all directive (map (λ f. f.now) fields.now) (length fields.now - 1) }
+fn uses_unknown(directive: Directive, fields: &[&[u8]], names: &Names) -> bool
+    ensures { (all : Items (Items (Items ℕ))) → AreNames names.now all →
+        result ≡ uses_unknown_in all directive (map (λ f. f.now) fields.now)
+        (length fields.now - 1) }
 {
     for place in 1..fields.len() {
         if is_unknown(field_kind(directive, place), field(fields, place), names) {
@@ -112,8 +130,9 @@ fn uses_unknown(directive: Directive, fields: &[&[u8]], names: &HashSet<(u8, &[u
 
 // Whether a field uses such a name.
 #[tactic(auto, unfolding(crate::specs::Among::is_unknown))]
-fn is_unknown(kind: FieldKind, text: &[u8], names: &HashSet<(u8, &[u8])>) -> bool
-    ensures { (all : Items (Items (Items ℕ))) → AreNames names.now all → result ≡ is_unknown_in all kind text.now }
+fn is_unknown(kind: FieldKind, text: &[u8], names: &Names) -> bool
+    ensures { (all : Items (Items (Items ℕ))) → AreNames names.now all →
+        result ≡ is_unknown_in all kind text.now }
 {
     match kind {
         FieldKind::NewName => false,
@@ -128,8 +147,9 @@ fn is_unknown(kind: FieldKind, text: &[u8], names: &HashSet<(u8, &[u8])>) -> boo
     }
 }
 
-fn is_known(part: Part, name: &[u8], names: &HashSet<(u8, &[u8])>) -> bool
-    ensures { (all : Items (Items (Items ℕ))) → AreNames names.now all → result ≡ list_any (defines_part part name.now) all }
+fn is_known(part: Part, name: &[u8], names: &Names) -> bool
+    ensures { (all : Items (Items (Items ℕ))) → AreNames names.now all →
+        result ≡ list_any (defines_part part name.now) all }
 {
     names.contains(&(part_number(part), name))
 }

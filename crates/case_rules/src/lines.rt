@@ -10,7 +10,8 @@ use std::alloc::{AllocError, Global};
 pub fn next_line(alloc: Global, text: &[u8]) -> Result<Option<(Vec<&[u8]>, &[u8])>, AllocError>
     ensures { IfOk result (λ found. MatchOption found
         (lines_of text.now ≡ [])
-        (λ r. (lines_of text.now ≡ map (λ f. f.now) r.0.items ∷ lines_of r.1.now) × (length r.1.now < length text.now))) }
+        (λ r. (lines_of text.now ≡ map (λ f. f.now) r.0.items ∷ lines_of r.1.now)
+        × (length r.1.now < length text.now))) }
 {
     match cut_line(text) {
         Some((line, others)) => Ok(Some((fields_of(alloc, line)?, others))),

@@ -2,7 +2,8 @@
 ghost use Rattle.std.specs.Prelude.{◌≡◌, ◌≤◌, ◌||◌, ◌&&◌, not, IfOk, List as Items, ℕ, length, map};
 ghost use Rattle.std.specs.HashSet.{contains};
 ghost use Rattle.case_lines.specs.Fields.{field as field_at};
-ghost use Rattle.case_rules.specs.Said.{lines_of, defines, defines_numbered, defines_part, is_single_of};
+ghost use Rattle.case_rules.specs.Said.{lines_of, defines, defines_numbered, defines_part};
+ghost use Rattle.case_rules.specs.Said.{is_single_of};
 ghost use Rattle.case_rules.specs.Known.{same_bytes, same_key, AreNames, AreDefined, AreSingles};
 ghost use denote.Ref.{Bor};
 
@@ -29,7 +30,10 @@ pub(crate) fn all_names(alloc: Global, bytes: &[u8]) -> Result<HashSet<(u8, &[u8
 // Adds the name that a line defines, if any, with the number of its kind.
 #[tactic(auto, unfolding(crate::specs::Said::defines_numbered))]
 fn add_name<'a>(names: &mut HashSet<(u8, &'a [u8])>, fields: &[&'a [u8]]) -> Result<(), AllocError>
-    ensures { IfOk result (λ u. (number : ℕ) (name : Bor (Items ℕ)) → contains same_key names.new (number, name) ≡ (defines_numbered number name.now (map (λ f. f.now) fields.now) || contains same_key names.old (number, name))) }
+    ensures { IfOk result (λ u. (number : ℕ) (name : Bor (Items ℕ)) →
+        contains same_key names.new (number, name)
+        ≡ (defines_numbered number name.now (map (λ f. f.now) fields.now)
+        || contains same_key names.old (number, name))) }
 {
     if let Some(part) = named_by(said(fields)) {
         if fields.len() > 1 {
@@ -45,7 +49,9 @@ pub(crate) fn add_definition<'a>(
     names: &mut HashSet<&'a [u8]>,
     fields: &[&'a [u8]],
 ) -> Result<(), AllocError>
-    ensures { IfOk result (λ u. (name : Bor (Items ℕ)) → contains same_bytes names.new name ≡ (defines name.now (map (λ f. f.now) fields.now) || contains same_bytes names.old name)) }
+    ensures { IfOk result (λ u. (name : Bor (Items ℕ)) →
+        contains same_bytes names.new name
+        ≡ (defines name.now (map (λ f. f.now) fields.now) || contains same_bytes names.old name)) }
 {
     if is_definition(fields) {
         names.insert(field(fields, 1))?;
@@ -59,7 +65,10 @@ pub(crate) fn add_single<'a>(
     words: &mut HashSet<&'a [u8]>,
     fields: &[&'a [u8]],
 ) -> Result<(), AllocError>
-    ensures { IfOk result (λ u. (word : Bor (Items ℕ)) → contains same_bytes words.new word ≡ (is_single_of word.now (map (λ f. f.now) fields.now) || contains same_bytes words.old word)) }
+    ensures { IfOk result (λ u. (word : Bor (Items ℕ)) →
+        contains same_bytes words.new word
+        ≡ (is_single_of word.now (map (λ f. f.now) fields.now)
+        || contains same_bytes words.old word)) }
 {
     if is_single(fields) {
         words.insert(field(fields, 0))?;

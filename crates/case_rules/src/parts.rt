@@ -1,7 +1,12 @@
 //! What lines say and define.
 ghost use Rattle.std.specs.Prelude.{◌≡◌, ◌≤◌, ◌&&◌, length, map, nat_lt};
 ghost use Rattle.std.specs.Str.{bytes_eq};
-ghost use Rattle.case_rules.specs.Said.{said as said_by, named_by as named_after, part_number as number_of_part, is_definition as is_definition_line, is_single_directive as is_single_word, is_single as is_single_line, is_single_of as is_single_line_of};
+ghost use Rattle.case_rules.specs.Said.{said as said_by, named_by as named_after};
+ghost use Rattle.case_rules.specs.Said.{part_number as number_of_part};
+ghost use Rattle.case_rules.specs.Said.{is_definition as is_definition_line};
+ghost use Rattle.case_rules.specs.Said.{is_single_directive as is_single_word};
+ghost use Rattle.case_rules.specs.Said.{is_single as is_single_line};
+ghost use Rattle.case_rules.specs.Said.{is_single_of as is_single_line_of};
 
 use case_lines::{Directive, directive_of, field};
 use case_model::TableKind;

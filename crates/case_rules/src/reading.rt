@@ -17,7 +17,8 @@ use std::collections::HashSet;
 pub fn judge_lines(alloc: Global, bytes: &[u8]) -> Result<(), CaseFault>
     requires { length bytes.now ≤ 8_388_608 }
     ensures kept { IfOk result (λ u. IsEmpty (line_rules (lines_of bytes.now))) }
-    ensures refused { (number line : ℕ) → result ≡ Err (CaseFault.Refused number line) → IsLeast (line_rules (lines_of bytes.now)) line number }
+    ensures refused { (number line : ℕ) → result ≡ Err (CaseFault.Refused number line) →
+        IsLeast (line_rules (lines_of bytes.now)) line number }
 {
     let version = text_version(alloc, bytes)?;
     let names = all_names(alloc, bytes)?;

@@ -1,31 +1,28 @@
--- The written text of a case: lines of fields, one blank between them, a line end after each; each number with all its places.
-use Rattle.std.specs.Prelude.{ℕ, ℤ, pos, ◌==◌, List, [], ◌∷◌, ◌++◌, if◌then◌else◌, slice_index_or, codes}
-use Rattle.std.specs.List.{flat_map, join_with_byte}
+-- The written text of a case: lines of fields, one blank between them, a line end after each; each
+-- number with all its places.
+use Rattle.std.specs.Prelude.{ℕ, ℤ, ◌==◌, List, [], ◌∷◌, ◌++◌, if◌then◌else◌, slice_index_or}
+use Rattle.std.specs.Prelude.{codes}
+use Rattle.std.specs.List.{flat_map}
 use Rattle.fixed_num.specs.Written.{written}
+use Rattle.surge_io.specs.Fields.{line_of, count_text, fields_text}
 use Rattle.case_model.specs.Parts.{no_table, no_node, no_pipe}
 use Rattle.case_model.specs.declared.cases.Case.{Case}
 use Rattle.case_model.specs.declared.cases.Friction.{Friction}
 use Rattle.case_model.specs.declared.cases.Friction.TheVariants.{Explicit, Linear}
 use Rattle.case_model.specs.declared.cases.Table.{Table}
 use Rattle.case_model.specs.declared.cases.TableKind.{TableKind}
-use Rattle.case_model.specs.declared.cases.TableKind.TheVariants.{Heads, Flows, Openings, Speeds, Curve, Gas}
+use Rattle.case_model.specs.declared.cases.TableKind.TheVariants.{Heads, Flows, Openings, Speeds}
+use Rattle.case_model.specs.declared.cases.TableKind.TheVariants.{Curve, Gas}
 use Rattle.case_model.specs.declared.cases.Value.{Value}
 use Rattle.case_model.specs.declared.cases.Value.TheVariants.{Fixed, ByTable}
 use Rattle.case_model.specs.declared.cases.Node.{Node}
 use Rattle.case_model.specs.declared.cases.NodeKind.{NodeKind}
-use Rattle.case_model.specs.declared.cases.NodeKind.TheVariants.{Reservoir, Junction, Discharge, Inline, Pump, Tank, Vessel}
+use Rattle.case_model.specs.declared.cases.NodeKind.TheVariants.{Reservoir, Junction, Discharge}
+use Rattle.case_model.specs.declared.cases.NodeKind.TheVariants.{Inline, Pump, Tank, Vessel}
 use Rattle.case_model.specs.declared.cases.Pipe.{Pipe}
 use Rattle.case_model.specs.declared.cases.Probe.{Probe}
 use Rattle.case_model.specs.declared.cases.ProbeAt.{ProbeAt}
 use Rattle.case_model.specs.declared.cases.ProbeAt.TheVariants.{OnPipe, OnNode}
-
--- a line of fields
-abbrev pub line_of : List (List ℕ) → List ℕ
-line_of fields = join_with_byte 32 fields ++ 10 ∷ []
-
--- a count or a place
-abbrev pub count_text : ℕ → List ℕ
-count_text n = written 0 (pos n)
 
 abbrev pub name_of_table : List Table → ℕ → List ℕ
 name_of_table tables t = (slice_index_or tables t no_table).name
@@ -87,7 +84,12 @@ second_places Flows = 9
 second_places _ = 6
 
 abbrev pub entry_fields : TableKind → ℤ × ℤ → List (List ℕ)
-entry_fields kind entry = written (first_places kind) entry.0 ∷ written (second_places kind) entry.1 ∷ []
+entry_fields kind entry =
+    written (first_places kind) entry.0 ∷ written (second_places kind) entry.1 ∷ []
+
+-- a pair of a table, with a blank before each number
+abbrev pub entry_text : TableKind → ℤ × ℤ → List ℕ
+entry_text kind entry = fields_text (entry_fields kind entry)
 
 unfoldable pub table_text : Table → List ℕ
 table_text t = line_of (table_word t.kind ∷ t.name ∷ flat_map (entry_fields t.kind) t.points)
@@ -110,29 +112,37 @@ abbrev pub kind_fields : List Table → NodeKind → List (List ℕ)
 kind_fields tables (Reservoir head) = value_text 6 tables head ∷ []
 kind_fields tables (Junction demand start) = value_text 9 tables demand ∷ written 6 start ∷ []
 kind_fields tables (Discharge q0 h0 outlet opening start) =
-    written 9 q0 ∷ written 6 h0 ∷ written 6 outlet ∷ value_text 6 tables opening ∷ written 6 start ∷ []
+    written 9 q0 ∷ written 6 h0 ∷ written 6 outlet ∷ value_text 6 tables opening ∷ written 6 start
+    ∷ []
 kind_fields tables (Inline q0 h0 opening start start2) =
-    written 9 q0 ∷ written 6 h0 ∷ value_text 6 tables opening ∷ written 6 start ∷ written 6 start2 ∷ []
+    written 9 q0 ∷ written 6 h0 ∷ value_text 6 tables opening ∷ written 6 start ∷ written 6 start2
+    ∷ []
 kind_fields tables (Pump curve speed start start2) =
-    reference_text tables curve ∷ value_text 6 tables speed ∷ written 6 start ∷ written 6 start2 ∷ []
+    reference_text tables curve ∷ value_text 6 tables speed ∷ written 6 start ∷ written 6 start2
+    ∷ []
 kind_fields tables (Tank area start) = written 6 area ∷ written 6 start ∷ []
 kind_fields tables (Vessel gas volume) = reference_text tables gas ∷ written 9 volume ∷ []
 
 unfoldable pub node_text : List Table → Node → List ℕ
-node_text tables n = line_of (node_word n.kind ∷ n.name ∷ written 6 n.elevation ∷ kind_fields tables n.kind)
+node_text tables n =
+    line_of (node_word n.kind ∷ n.name ∷ written 6 n.elevation ∷ kind_fields tables n.kind)
 
--- the names of a pipe and of the nodes where it begins and ends, and its numbers: mm, mm, mm/s, friction and flow
+-- the names of a pipe and of the nodes where it begins and ends, and its numbers: mm, mm, mm/s,
+-- friction and flow
 abbrev pub pipe_names : List Node → Pipe → List (List ℕ)
 pipe_names nodes p = p.name ∷ name_of_node nodes p.first ∷ name_of_node nodes p.last ∷ []
 
 abbrev pub pipe_numbers : Pipe → List (List ℕ)
-pipe_numbers p = written 3 p.length ∷ written 3 p.diameter ∷ written 3 p.speed ∷ written 6 p.friction ∷ written 9 p.flow ∷ []
+pipe_numbers p =
+    written 3 p.length ∷ written 3 p.diameter ∷ written 3 p.speed ∷ written 6 p.friction
+    ∷ written 9 p.flow ∷ []
 
 unfoldable pub pipe_text : List Node → Pipe → List ℕ
 pipe_text nodes p = line_of (codes "pipe" ∷ pipe_names nodes p ++ pipe_numbers p)
 
 abbrev pub spot_fields : List Pipe → List Node → ProbeAt → List (List ℕ)
-spot_fields pipes nodes (OnPipe pipe place) = codes "probe" ∷ name_of_pipe pipes pipe ∷ count_text place ∷ []
+spot_fields pipes nodes (OnPipe pipe place) =
+    codes "probe" ∷ name_of_pipe pipes pipe ∷ count_text place ∷ []
 spot_fields pipes nodes (OnNode node) = codes "watch" ∷ name_of_node nodes node ∷ []
 
 unfoldable pub probe_text : List Pipe → List Node → Probe → List ℕ

@@ -1,11 +1,11 @@
 -- Which tables, pipes and nodes a part of a case names.
-use Rattle.std.specs.Prelude.{ℕ, ◌<◌, List, ◌∷◌, length}
-use Rattle.std.specs.List.{flat_map}
+use Rattle.std.specs.Prelude.{ℕ, ◌<◌, List, length}
 use Rattle.case_model.specs.declared.cases.Table.{Table}
 use Rattle.case_model.specs.declared.cases.Value.{Value}
 use Rattle.case_model.specs.declared.cases.Value.TheVariants.{Fixed, ByTable}
 use Rattle.case_model.specs.declared.cases.NodeKind.{NodeKind}
-use Rattle.case_model.specs.declared.cases.NodeKind.TheVariants.{Reservoir, Junction, Discharge, Inline, Pump, Tank, Vessel}
+use Rattle.case_model.specs.declared.cases.NodeKind.TheVariants.{Reservoir, Junction, Discharge}
+use Rattle.case_model.specs.declared.cases.NodeKind.TheVariants.{Inline, Pump, Tank, Vessel}
 use Rattle.case_model.specs.declared.cases.ProbeAt.{ProbeAt}
 use Rattle.case_model.specs.declared.cases.ProbeAt.TheVariants.{OnPipe, OnNode}
 
@@ -28,7 +28,3 @@ AreNamed tables (Vessel gas volume) = gas < length tables
 abbrev pub IsThere : ℕ → ℕ → ProbeAt → Type 0
 IsThere pipes nodes (OnPipe pipe place) = pipe < pipes
 IsThere pipes nodes (OnNode node) = node < nodes
-
--- fields with a blank before each
-abbrev pub spaced : List (List ℕ) → List ℕ
-spaced fields = flat_map (λ field. 32 ∷ field) fields

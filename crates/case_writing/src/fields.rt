@@ -1,34 +1,11 @@
 //! The fields of a line, each behind a blank.
-ghost use Rattle.std.specs.Prelude.{◌≡◌, ◌≤◌, ◌<◌, ◌+◌, ◌++◌, ◌∷◌, length, unsigned_abs};
+ghost use Rattle.std.specs.Prelude.{◌≡◌, ◌≤◌, ◌<◌, ◌+◌, ◌++◌, ◌∷◌, length};
 ghost use Rattle.fixed_num.specs.Written.{written};
-ghost use Rattle.case_writing.specs.CaseText.{count_text, reference_text, value_text};
+ghost use Rattle.case_writing.specs.CaseText.{reference_text, value_text};
 ghost use Rattle.case_writing.specs.Named.{IsNamed};
 
 use case_model::{Table, Value};
-use fixed_num::write_decimal;
 use surge_io::Line;
-
-// Adds a blank and a field.
-pub(crate) fn add_field(line: &mut Line, field: &[u8])
-    requires { length line.old + 1 + length field.now ≤ 256 }
-    ensures { line.new ≡ line.old ++ 32 ∷ field.now }
-{
-    line.push(b" ");
-    line.push(field);
-}
-
-// Adds a blank and the digits of a number.
-fn add_digits(line: &mut Line, value: i128, places: u32)
-    requires room { length line.old ≤ 233 }
-    requires size { unsigned_abs value < 100_000_000_000_000_000_000 }
-    requires places { places ≤ 9 }
-    ensures text { line.new ≡ line.old ++ 32 ∷ written places value }
-    ensures few { length line.new ≤ length line.old + 23 }
-{
-    let mut digits = [0; 48];
-    let count = write_decimal(value, places, &mut digits);
-    add_field(line, &digits[..count]);
-}
 
 // Adds a blank and a number, with all its places.
 pub(crate) fn add_number(line: &mut Line, value: i64, places: u32)
@@ -37,16 +14,7 @@ pub(crate) fn add_number(line: &mut Line, value: i64, places: u32)
     ensures text { line.new ≡ line.old ++ 32 ∷ written places value }
     ensures few { length line.new ≤ length line.old + 23 }
 {
-    add_digits(line, value as i128, places);
-}
-
-// Adds a blank and a count or a place.
-pub(crate) fn add_count(line: &mut Line, count: u64)
-    requires room { length line.old ≤ 233 }
-    ensures text { line.new ≡ line.old ++ 32 ∷ count_text count }
-    ensures few { length line.new ≤ length line.old + 23 }
-{
-    add_digits(line, count as i128, 0);
+    line.add_number(value as i128, places);
 }
 
 // Adds a blank and a reference to a table.
@@ -56,7 +24,7 @@ pub(crate) fn add_reference(line: &mut Line, tables: &[Table], table: u32)
     ensures text { line.new ≡ line.old ++ 32 ∷ reference_text tables.now table }
     ensures few { length line.new ≤ length line.old + 34 }
 {
-    add_field(line, b"@");
+    line.add_field(b"@");
     line.push(tables[table as usize].name.as_bytes());
 }
 

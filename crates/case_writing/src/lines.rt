@@ -2,10 +2,14 @@
 ghost use Rattle.std.specs.Prelude.{◌≡◌, ◌≤◌, ◌+◌, ◌++◌, ◌∷◌, [], codes, length};
 ghost use Rattle.fixed_num.specs.Written.{written};
 ghost use Rattle.case_model.specs.Limits.{IsJoined};
-ghost use Rattle.case_writing.specs.CaseText.{count_text, entry_fields, first_places, friction_text, friction_word, line_of, pipe_names, pipe_numbers, pipe_text, probe_text, second_places, settings_text, table_word, version_word};
-ghost use Rattle.case_writing.specs.Named.{IsThere, spaced};
+ghost use Rattle.surge_io.specs.Fields.{count_text, fields_text, line_of};
+ghost use Rattle.case_writing.specs.CaseText.{entry_text, first_places, friction_text};
+ghost use Rattle.case_writing.specs.CaseText.{friction_word, pipe_names, pipe_numbers, pipe_text};
+ghost use Rattle.case_writing.specs.CaseText.{probe_text, second_places, settings_text};
+ghost use Rattle.case_writing.specs.CaseText.{table_word, version_word};
+ghost use Rattle.case_writing.specs.Named.{IsThere};
 
-use crate::fields::{add_count, add_field, add_number};
+use crate::fields::add_number;
 use case_model::{Case, Friction, Node, Pipe, Probe, ProbeAt, Table, TableKind};
 use surge_io::Line;
 
@@ -33,7 +37,7 @@ fn add_heading(lines: &mut Line, version: u8)
     ensures few { length lines.new ≤ length lines.old + 8 }
 {
     lines.push(b"surge");
-    add_field(lines, if version == 1 { b"1" } else { b"2" });
+    lines.add_field(if version == 1 { b"1" } else { b"2" });
     lines.push(b"\n");
 }
 
@@ -44,7 +48,7 @@ fn add_friction(lines: &mut Line, version: u8, friction: Friction)
 {
     if version != 1 {
         lines.push(b"friction");
-        add_field(lines, friction_word(friction));
+        lines.add_field(friction_word(friction));
         lines.push(b"\n");
     }
 }
@@ -80,7 +84,7 @@ fn add_counted(lines: &mut Line, word: &[u8], count: u64)
     ensures few { length lines.new ≤ length lines.old + 33 }
 {
     lines.push(word);
-    add_count(lines, count);
+    lines.add_count(count);
     lines.push(b"\n");
 }
 
@@ -105,7 +109,7 @@ pub(crate) fn table_start(table: &Table) -> Line
 {
     let mut line = Line::new();
     line.push(table_word(table.kind));
-    add_field(&mut line, table.name.as_bytes());
+    line.add_field(table.name.as_bytes());
     line
 }
 
@@ -137,7 +141,7 @@ fn second_places(kind: TableKind) -> u32
 
 // A pair of a table, with a blank before each number.
 pub(crate) fn entry_piece(kind: TableKind, entry: (i64, i64)) -> Line
-    ensures { result ≡ spaced (entry_fields kind entry) }
+    ensures { result ≡ entry_text kind entry }
 {
     let mut piece = Line::new();
     add_number(&mut piece, entry.0, first_places(kind));
@@ -163,18 +167,18 @@ pub(crate) fn pipe_line(nodes: &[Node], pipe: &Pipe) -> Line
 fn add_names(line: &mut Line, nodes: &[Node], pipe: &Pipe)
     requires room { length line.old ≤ 100 }
     requires joined { IsJoined (length nodes.now) pipe.now }
-    ensures text { line.new ≡ line.old ++ spaced (pipe_names nodes.now pipe.now) }
+    ensures text { line.new ≡ line.old ++ fields_text (pipe_names nodes.now pipe.now) }
     ensures few { length line.new ≤ length line.old + 99 }
 {
-    add_field(line, pipe.name.as_bytes());
-    add_field(line, nodes[pipe.first as usize].name.as_bytes());
-    add_field(line, nodes[pipe.last as usize].name.as_bytes());
+    line.add_field(pipe.name.as_bytes());
+    line.add_field(nodes[pipe.first as usize].name.as_bytes());
+    line.add_field(nodes[pipe.last as usize].name.as_bytes());
 }
 
 // Adds the numbers of a pipe.
 fn add_measures(line: &mut Line, pipe: &Pipe)
     requires { length line.old ≤ 110 }
-    ensures text { line.new ≡ line.old ++ spaced (pipe_numbers pipe.now) }
+    ensures text { line.new ≡ line.old ++ fields_text (pipe_numbers pipe.now) }
     ensures few { length line.new ≤ length line.old + 115 }
 {
     add_number(line, pipe.length, 3);
@@ -194,12 +198,12 @@ pub(crate) fn probe_line(pipes: &[Pipe], nodes: &[Node], probe: &Probe) -> Line
     match probe.at {
         ProbeAt::OnPipe { pipe, place } => {
             line.push(b"probe");
-            add_field(&mut line, pipes[pipe as usize].name.as_bytes());
-            add_count(&mut line, place as u64);
+            line.add_field(pipes[pipe as usize].name.as_bytes());
+            line.add_count(place as u64);
         }
         ProbeAt::OnNode { node } => {
             line.push(b"watch");
-            add_field(&mut line, nodes[node as usize].name.as_bytes());
+            line.add_field(nodes[node as usize].name.as_bytes());
         }
     }
     line.push(b"\n");

@@ -1,10 +1,11 @@
 //! The line of a node.
 ghost use Rattle.std.specs.Prelude.{◌≡◌, ◌≤◌, ◌+◌, ◌++◌, ◌∷◌, [], length};
 ghost use Rattle.fixed_num.specs.Written.{written};
+ghost use Rattle.surge_io.specs.Fields.{fields_text};
 ghost use Rattle.case_writing.specs.CaseText.{kind_fields, node_text, node_word};
-ghost use Rattle.case_writing.specs.Named.{AreNamed, spaced};
+ghost use Rattle.case_writing.specs.Named.{AreNamed};
 
-use crate::fields::{add_field, add_number, add_reference, add_value};
+use crate::fields::{add_number, add_reference, add_value};
 use case_model::{Node, NodeKind, Table};
 use surge_io::Line;
 
@@ -16,7 +17,7 @@ pub(crate) fn node_line(tables: &[Table], node: &Node) -> Line
 {
     let mut line = Line::new();
     line.push(node_word(node.kind));
-    add_field(&mut line, node.name.as_bytes());
+    line.add_field(node.name.as_bytes());
     add_number(&mut line, node.elevation, 6);
     add_kind(&mut line, tables, node.kind);
     line.push(b"\n");
@@ -43,7 +44,7 @@ fn node_word(kind: NodeKind) -> &'static [u8]
 fn add_kind(line: &mut Line, tables: &[Table], kind: NodeKind)
     requires room { length line.old ≤ 70 }
     requires named { AreNamed tables.now kind }
-    ensures text { line.new ≡ line.old ++ spaced (kind_fields tables.now kind) }
+    ensures text { line.new ≡ line.old ++ fields_text (kind_fields tables.now kind) }
     ensures few { length line.new ≤ length line.old + 126 }
 {
     match kind {
@@ -101,7 +102,7 @@ fn add_kind(line: &mut Line, tables: &[Table], kind: NodeKind)
 // Adds the flow of a valve when it is open, and the head loss at that flow.
 fn add_valve(line: &mut Line, q0: i64, h0: i64)
     requires { length line.old ≤ 70 }
-    ensures text { line.new ≡ line.old ++ spaced (written 9 q0 ∷ written 6 h0 ∷ []) }
+    ensures text { line.new ≡ line.old ++ fields_text (written 9 q0 ∷ written 6 h0 ∷ []) }
     ensures few { length line.new ≤ length line.old + 46 }
 {
     add_number(line, q0, 9);

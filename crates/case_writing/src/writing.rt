@@ -1,12 +1,10 @@
 //! The text of a case, line by line through a page.
-ghost use Rattle.std.specs.Prelude.{◌≡◌, ◌≤◌, ◌++◌, length, All, OnOk, OnErr};
+ghost use Rattle.std.specs.Prelude.{length, All};
 ghost use Rattle.std.specs.List.{flat_map};
-ghost use Rattle.surge_io.specs.Bytes.{Appends, AppendsFront};
-ghost use Rattle.surge_io.specs.Faults.{Rose};
-ghost use Rattle.surge_io.specs.Pages.{Adds, AddsFront};
+ghost use Rattle.surge_io.specs.Writings.{IsAdded, IsWritten};
 ghost use Rattle.case_model.specs.Limits.{IsJoined, IsNode, IsRead, IsSpot};
-ghost use Rattle.case_writing.specs.CaseText.{case_text, entry_fields, network_text, node_text, pipe_text, probe_text, table_text, text_in, upgraded};
-ghost use Rattle.case_writing.specs.Named.{spaced};
+ghost use Rattle.case_writing.specs.CaseText.{case_text, entry_text, network_text, node_text};
+ghost use Rattle.case_writing.specs.CaseText.{pipe_text, probe_text, table_text, text_in, upgraded};
 
 use crate::lines::{entry_piece, pipe_line, probe_line, settings_lines, table_start};
 use crate::nodes::node_line;
@@ -19,10 +17,7 @@ use surge_io::{Failed, Page, Sink};
 #[tactic(auto, unfolding(crate::specs::CaseText::case_text))]
 pub fn write_case<K: Sink>(case: &Case, out: &mut K) -> Result<(), Failed>
     requires { IsRead case.now }
-    ensures all { OnOk result (Appends (K.held out.old) (K.held out.new) (case_text case.now)) }
-    ensures front { OnErr result (AppendsFront (K.held out.old) (K.held out.new) (case_text case.now)) }
-    ensures cause { OnErr result (Rose (K.faults out.old) (K.faults out.new)) }
-    ensures later { K.faults out.old ≤ K.faults out.new }
+    ensures { IsWritten K.held K.faults result out.old out.new (case_text case.now) }
 {
     write_as(case.version, case, out)
 }
@@ -32,12 +27,7 @@ pub fn write_case<K: Sink>(case: &Case, out: &mut K) -> Result<(), Failed>
 /// count of faults rose in this call, and then a first part was written.
 pub fn write_upgraded<K: Sink>(case: &Case, out: &mut K) -> Result<(), Failed>
     requires { IsRead case.now }
-    ensures all { OnOk result
-        (Appends (K.held out.old) (K.held out.new) (case_text (upgraded case.now))) }
-    ensures front { OnErr result
-        (AppendsFront (K.held out.old) (K.held out.new) (case_text (upgraded case.now))) }
-    ensures cause { OnErr result (Rose (K.faults out.old) (K.faults out.new)) }
-    ensures later { K.faults out.old ≤ K.faults out.new }
+    ensures { IsWritten K.held K.faults result out.old out.new (case_text (upgraded case.now)) }
 {
     write_as(2, case, out)
 }
@@ -45,12 +35,7 @@ pub fn write_upgraded<K: Sink>(case: &Case, out: &mut K) -> Result<(), Failed>
 // Writes the text of a case in a version of the case text.
 fn write_as<K: Sink>(version: u8, case: &Case, out: &mut K) -> Result<(), Failed>
     requires { IsRead case.now }
-    ensures all { OnOk result
-        (Appends (K.held out.old) (K.held out.new) (text_in version case.now)) }
-    ensures front { OnErr result
-        (AppendsFront (K.held out.old) (K.held out.new) (text_in version case.now)) }
-    ensures cause { OnErr result (Rose (K.faults out.old) (K.faults out.new)) }
-    ensures later { K.faults out.old ≤ K.faults out.new }
+    ensures { IsWritten K.held K.faults result out.old out.new (text_in version case.now) }
 {
     let mut page = Page::new();
     add_case(version, case, &mut page, out)?;
@@ -60,12 +45,8 @@ fn write_as<K: Sink>(version: u8, case: &Case, out: &mut K) -> Result<(), Failed
 // Adds the whole text.
 fn add_case<K: Sink>(version: u8, case: &Case, page: &mut Page, out: &mut K) -> Result<(), Failed>
     requires { IsRead case.now }
-    ensures all { OnOk result (Adds (K.held out.old) page.old (K.held out.new) page.new
-        (text_in version case.now)) }
-    ensures front { OnErr result (AddsFront (K.held out.old) page.old (K.held out.new)
-        (text_in version case.now)) }
-    ensures cause { OnErr result (Rose (K.faults out.old) (K.faults out.new)) }
-    ensures later { K.faults out.old ≤ K.faults out.new }
+    ensures { IsAdded K.held K.faults result out.old page.old out.new page.new
+        (text_in version case.now) }
 {
     let settings = settings_lines(version, case);
     page.add(out, settings.as_bytes())?;
@@ -76,10 +57,8 @@ fn add_case<K: Sink>(version: u8, case: &Case, page: &mut Page, out: &mut K) -> 
 // Adds the nodes, the pipes, and the probes with the watches.
 fn add_network<K: Sink>(case: &Case, page: &mut Page, out: &mut K) -> Result<(), Failed>
     requires { IsRead case.now }
-    ensures all { OnOk result (Adds (K.held out.old) page.old (K.held out.new) page.new (network_text case.now)) }
-    ensures front { OnErr result (AddsFront (K.held out.old) page.old (K.held out.new) (network_text case.now)) }
-    ensures cause { OnErr result (Rose (K.faults out.old) (K.faults out.new)) }
-    ensures later { K.faults out.old ≤ K.faults out.new }
+    ensures { IsAdded K.held K.faults result out.old page.old out.new page.new
+        (network_text case.now) }
 {
     let tables = case.tables.as_slice();
     let nodes = case.nodes.as_slice();
@@ -91,10 +70,8 @@ fn add_network<K: Sink>(case: &Case, page: &mut Page, out: &mut K) -> Result<(),
 
 // Adds the lines of tables.
 fn add_tables<K: Sink>(tables: &[Table], page: &mut Page, out: &mut K) -> Result<(), Failed>
-    ensures all { OnOk result (Adds (K.held out.old) page.old (K.held out.new) page.new (flat_map table_text tables.now)) }
-    ensures front { OnErr result (AddsFront (K.held out.old) page.old (K.held out.new) (flat_map table_text tables.now)) }
-    ensures cause { OnErr result (Rose (K.faults out.old) (K.faults out.new)) }
-    ensures later { K.faults out.old ≤ K.faults out.new }
+    ensures { IsAdded K.held K.faults result out.old page.old out.new page.new
+        (flat_map table_text tables.now) }
 {
     for table in tables {
         add_table(table, page, out)?;
@@ -104,10 +81,8 @@ fn add_tables<K: Sink>(tables: &[Table], page: &mut Page, out: &mut K) -> Result
 
 // Adds the line of a table, which may be long.
 pub(crate) fn add_table<K: Sink>(table: &Table, page: &mut Page, out: &mut K) -> Result<(), Failed>
-    ensures all { OnOk result (Adds (K.held out.old) page.old (K.held out.new) page.new (table_text table.now)) }
-    ensures front { OnErr result (AddsFront (K.held out.old) page.old (K.held out.new) (table_text table.now)) }
-    ensures cause { OnErr result (Rose (K.faults out.old) (K.faults out.new)) }
-    ensures later { K.faults out.old ≤ K.faults out.new }
+    ensures { IsAdded K.held K.faults result out.old page.old out.new page.new
+        (table_text table.now) }
 {
     let start = table_start(table);
     page.add(out, start.as_bytes())?;
@@ -122,10 +97,8 @@ fn add_entries<K: Sink>(
     page: &mut Page,
     out: &mut K,
 ) -> Result<(), Failed>
-    ensures all { OnOk result (Adds (K.held out.old) page.old (K.held out.new) page.new (flat_map (λ entry. spaced (entry_fields kind entry)) entries.now)) }
-    ensures front { OnErr result (AddsFront (K.held out.old) page.old (K.held out.new) (flat_map (λ entry. spaced (entry_fields kind entry)) entries.now)) }
-    ensures cause { OnErr result (Rose (K.faults out.old) (K.faults out.new)) }
-    ensures later { K.faults out.old ≤ K.faults out.new }
+    ensures { IsAdded K.held K.faults result out.old page.old out.new page.new
+        (flat_map (entry_text kind) entries.now) }
 {
     for entry in entries {
         let piece = entry_piece(kind, *entry);
@@ -142,10 +115,8 @@ fn add_nodes<K: Sink>(
     out: &mut K,
 ) -> Result<(), Failed>
     requires { All (IsNode tables.now) nodes.now }
-    ensures all { OnOk result (Adds (K.held out.old) page.old (K.held out.new) page.new (flat_map (node_text tables.now) nodes.now)) }
-    ensures front { OnErr result (AddsFront (K.held out.old) page.old (K.held out.new) (flat_map (node_text tables.now) nodes.now)) }
-    ensures cause { OnErr result (Rose (K.faults out.old) (K.faults out.new)) }
-    ensures later { K.faults out.old ≤ K.faults out.new }
+    ensures { IsAdded K.held K.faults result out.old page.old out.new page.new
+        (flat_map (node_text tables.now) nodes.now) }
 {
     for node in nodes {
         let line = node_line(tables, node);
@@ -162,10 +133,8 @@ fn add_pipes<K: Sink>(
     out: &mut K,
 ) -> Result<(), Failed>
     requires { All (IsJoined (length nodes.now)) pipes.now }
-    ensures all { OnOk result (Adds (K.held out.old) page.old (K.held out.new) page.new (flat_map (pipe_text nodes.now) pipes.now)) }
-    ensures front { OnErr result (AddsFront (K.held out.old) page.old (K.held out.new) (flat_map (pipe_text nodes.now) pipes.now)) }
-    ensures cause { OnErr result (Rose (K.faults out.old) (K.faults out.new)) }
-    ensures later { K.faults out.old ≤ K.faults out.new }
+    ensures { IsAdded K.held K.faults result out.old page.old out.new page.new
+        (flat_map (pipe_text nodes.now) pipes.now) }
 {
     for pipe in pipes {
         let line = pipe_line(nodes, pipe);
@@ -183,10 +152,8 @@ fn add_probes<K: Sink>(
     out: &mut K,
 ) -> Result<(), Failed>
     requires { All (λ q. IsSpot (length pipes.now) (length nodes.now) q.at) probes.now }
-    ensures all { OnOk result (Adds (K.held out.old) page.old (K.held out.new) page.new (flat_map (probe_text pipes.now nodes.now) probes.now)) }
-    ensures front { OnErr result (AddsFront (K.held out.old) page.old (K.held out.new) (flat_map (probe_text pipes.now nodes.now) probes.now)) }
-    ensures cause { OnErr result (Rose (K.faults out.old) (K.faults out.new)) }
-    ensures later { K.faults out.old ≤ K.faults out.new }
+    ensures { IsAdded K.held K.faults result out.old page.old out.new page.new
+        (flat_map (probe_text pipes.now nodes.now) probes.now) }
 {
     for probe in probes {
         let line = probe_line(pipes, nodes, probe);

@@ -1,9 +1,12 @@
 -- The command line as data, what it refuses, and the job that the words name.
-use Rattle.std.specs.Prelude.{◌≡◌, ◌≤◌, ℕ, Bool, true, false, List, Option, Some, None, codes, pos, is_some}
-use Rattle.std.specs.Prelude.{option_map, option_and_then, unwrap_or, if◌then◌else◌, not, length, ◌==◌}
+use Rattle.std.specs.Prelude.{◌≡◌, ◌≤◌, ℕ, Bool, true, false, List, Option, Some, None, codes, pos}
+use Rattle.std.specs.Prelude.{is_some}
+use Rattle.std.specs.Prelude.{option_map, option_and_then, unwrap_or, if◌then◌else◌, not, length}
+use Rattle.std.specs.Prelude.{◌==◌}
 use Rattle.std.specs.Str.{bytes_eq}
 use Rattle.std.specs.Str.Parse.{IsNumeral, digits_value, without_leading_plus}
-use Rattle.clap.specs.Words.{App, Row, Rule, Text, fault_of, first_of, matches_of, new_app, new_rule, one_of, one_text, with_rule}
+use Rattle.clap.specs.Words.{App, Row, Rule, Text, fault_of, first_of, matches_of, new_app}
+use Rattle.clap.specs.Words.{new_rule, one_of, one_text, with_rule}
 use Rattle.clap.specs.declared.parser.matches.Found.{Found}
 use Rattle.clap.specs.Kinds.{Kinds}
 use Rattle.clap.specs.declared.builder.value_parser.ValueParser.{ValueParser}
@@ -74,7 +77,8 @@ wants_number _ = false
 
 -- the number that stands under this name, if any
 unfoldable pub number_at : Text → List Row → Option ℕ
-number_at id rows = option_map (λ text. digits_value 10 (without_leading_plus text)) (one_of id rows)
+number_at id rows =
+    option_map (λ text. digits_value 10 (without_leading_plus text)) (one_of id rows)
 
 abbrev pub same : Bool → Bool → Bool
 same true b = b

@@ -2,7 +2,8 @@
 ghost use Rattle.std.specs.Prelude.{◌≡◌, IfErr, IfOk, [], false, map};
 ghost use Rattle.clap.specs.Words.{app_of, found_of, rows_of, rule_of};
 ghost use Rattle.command_words.specs.CommandLine.{HasNumbers, command_rule, faults, found, line};
-ghost use Rattle.command_words.specs.CommandLine.{number_rule, slots_rule, window_rule, workers_rule};
+ghost use Rattle.command_words.specs.CommandLine.{number_rule, slots_rule, window_rule};
+ghost use Rattle.command_words.specs.CommandLine.{workers_rule};
 
 use crate::job::WordsFault;
 use clap::error::{Error, ErrorKind};

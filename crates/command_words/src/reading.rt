@@ -1,5 +1,6 @@
 //! The job that the words name.
-ghost use Rattle.std.specs.Prelude.{◌≡◌, IfOk, MatchResult, None, Some, codes, map, option_and_then};
+ghost use Rattle.std.specs.Prelude.{◌≡◌, IfOk, MatchResult, None, Some, codes, map};
+ghost use Rattle.std.specs.Prelude.{option_and_then};
 ghost use Rattle.clap.specs.Words.{first_of, found_of, rows_of};
 ghost use Rattle.command_words.specs.CommandLine.{HasIn, HasNumbers, IsJob, command_of, job_among};
 ghost use Rattle.command_words.specs.CommandLine.{job_of, job_with as job_by, number_at};

@@ -1,5 +1,6 @@
 -- The case that lines say: their values in file order, with names resolved and defaults filled in.
-use Rattle.std.specs.Prelude.{ℕ, ◌==◌, ◌+◌, ℤ, pos, neg_ℤ, unsigned_abs, Option, Some, None, if◌then◌else◌, unwrap_or, List, [], ◌∷◌, codes}
+use Rattle.std.specs.Prelude.{ℕ, ◌==◌, ◌+◌, ℤ, pos, neg_ℤ, unsigned_abs, Option, Some, None}
+use Rattle.std.specs.Prelude.{if◌then◌else◌, unwrap_or, List, [], ◌∷◌, codes}
 use Rattle.std.specs.List.{find, position_from, cons_option}
 use Rattle.std.specs.Str.{bytes_eq}
 use Rattle.case_model.specs.declared.cases.Case.{Case}
@@ -10,16 +11,30 @@ use Rattle.case_model.specs.declared.cases.Value.{Value}
 use Rattle.case_model.specs.declared.cases.Value.TheVariants.{Fixed, ByTable}
 use Rattle.case_model.specs.declared.cases.Node.{Node}
 use Rattle.case_model.specs.declared.cases.NodeKind.{NodeKind}
-use Rattle.case_model.specs.declared.cases.NodeKind.TheVariants.{Reservoir as ReservoirKind, Junction as JunctionKind, Discharge as DischargeKind, Inline as InlineKind, Pump as PumpKind, Tank as TankKind, Vessel as VesselKind}
+use Rattle.case_model.specs.declared.cases.NodeKind.TheVariants.{Reservoir as ReservoirKind}
+use Rattle.case_model.specs.declared.cases.NodeKind.TheVariants.{Junction as JunctionKind}
+use Rattle.case_model.specs.declared.cases.NodeKind.TheVariants.{Discharge as DischargeKind}
+use Rattle.case_model.specs.declared.cases.NodeKind.TheVariants.{Inline as InlineKind}
+use Rattle.case_model.specs.declared.cases.NodeKind.TheVariants.{Pump as PumpKind, Tank as TankKind}
+use Rattle.case_model.specs.declared.cases.NodeKind.TheVariants.{Vessel as VesselKind}
 use Rattle.case_model.specs.declared.cases.Pipe.{Pipe}
 use Rattle.case_model.specs.declared.cases.Probe.{Probe}
 use Rattle.case_model.specs.declared.cases.ProbeAt.TheVariants.{OnPipe, OnNode}
 use Rattle.case_lines.specs.declared.words.NodeWord.{NodeWord}
-use Rattle.case_lines.specs.declared.words.NodeWord.TheVariants.{Reservoir, Junction, Discharge, Inline, Pump, Tank, Vessel}
+use Rattle.case_lines.specs.declared.words.NodeWord.TheVariants.{Reservoir, Junction, Discharge}
+use Rattle.case_lines.specs.declared.words.NodeWord.TheVariants.{Inline, Pump, Tank, Vessel}
 use Rattle.case_lines.specs.declared.words.Directive.{Directive}
-use Rattle.case_lines.specs.declared.words.Directive.TheVariants.{OfSingle, OfTable, OfNode, OfPipe, OfProbe, OfWatch}
+use Rattle.case_lines.specs.declared.words.Directive.TheVariants.{OfSingle, OfTable, OfNode, OfPipe}
+use Rattle.case_lines.specs.declared.words.Directive.TheVariants.{OfProbe, OfWatch}
 use Rattle.case_lines.specs.declared.quantities.Quantity.{Quantity}
-use Rattle.case_lines.specs.declared.quantities.Quantity.TheVariants.{TimeStep, StepCount, VapourHead, GrowthWeight, SpeedTolerance, SampleStep, Head, Flow, Opening, SpeedRatio, Volume, Elevation, ValveFlow, ValveLoss, Area, Length, Diameter, WaveSpeed, FrictionFactor, PipePlace}
+use Rattle.case_lines.specs.declared.quantities.Quantity.TheVariants.{TimeStep, StepCount}
+use Rattle.case_lines.specs.declared.quantities.Quantity.TheVariants.{VapourHead, GrowthWeight}
+use Rattle.case_lines.specs.declared.quantities.Quantity.TheVariants.{SpeedTolerance, SampleStep}
+use Rattle.case_lines.specs.declared.quantities.Quantity.TheVariants.{Head, Flow, Opening}
+use Rattle.case_lines.specs.declared.quantities.Quantity.TheVariants.{SpeedRatio, Volume, Elevation}
+use Rattle.case_lines.specs.declared.quantities.Quantity.TheVariants.{ValveFlow, ValveLoss, Area}
+use Rattle.case_lines.specs.declared.quantities.Quantity.TheVariants.{Length, Diameter, WaveSpeed}
+use Rattle.case_lines.specs.declared.quantities.Quantity.TheVariants.{FrictionFactor, PipePlace}
 use Rattle.case_lines.specs.Quantities.{amount}
 use Rattle.case_lines.specs.Fields.{field, is_marked, referred}
 use Rattle.case_lines.specs.Words.{friction_of}
@@ -44,8 +59,8 @@ unfoldable pub friction_from : ℕ → List (List (List ℕ)) → Friction
 friction_from version lines =
     if version == 1 then Explicit else friction_by (find (is_single_of (codes "friction")) lines)
 
--- the index of the table, the node or the pipe of this name; 0 where there is none, which the rule of
--- unknown names refuses
+-- the index of the table, the node or the pipe of this name; 0 where there is none, which the rule
+-- of unknown names refuses
 unfoldable pub table_index : List Table → List ℕ → ℕ
 table_index tables name = unwrap_or (position_from (λ t. bytes_eq t.name name) 0 tables) 0
 
@@ -59,7 +74,8 @@ pipe_index pipes name = unwrap_or (position_from (λ p. bytes_eq p.name name) 0 
 abbrev pub table_by : Option Directive → ℕ → List (List ℕ) → Option Table
 table_by None line fields = None
 table_by (Some (OfSingle single)) line fields = None
-table_by (Some (OfTable kind)) line fields = Some (record { name = field fields 1; line = line; kind = kind; points = pairs_of kind fields })
+table_by (Some (OfTable kind)) line fields =
+    Some (record { name = field fields 1; line = line; kind = kind; points = pairs_of kind fields })
 table_by (Some (OfNode node)) line fields = None
 table_by (Some OfPipe) line fields = None
 table_by (Some OfProbe) line fields = None
@@ -71,24 +87,32 @@ table_said line fields = table_by (said fields) line fields
 -- the tables of these lines in file order, of which the first has the number `line`
 abbrev pub tables_from : ℕ → List (List (List ℕ)) → List Table
 tables_from line [] = []
-tables_from line (fields ∷ more) = cons_option (table_said line fields) (tables_from (line + 1) more)
+tables_from line (fields ∷ more) =
+    cons_option (table_said line fields) (tables_from (line + 1) more)
 
 -- a number, or the table that a reference names
 unfoldable pub value_said : List Table → Quantity → List ℕ → Value
-value_said tables quantity text = if is_marked text then ByTable (table_index tables (referred text)) else Fixed (amount quantity text)
+value_said tables quantity text =
+    if is_marked text then ByTable (table_index tables (referred text))
+    else Fixed (amount quantity text)
 
 -- what stands at a node, by the fields of its line
 unfoldable pub kind_said : List Table → NodeWord → List (List ℕ) → NodeKind
 kind_said tables Reservoir f = ReservoirKind (value_said tables Head (field f 3))
-kind_said tables Junction f = JunctionKind (value_said tables Flow (field f 3)) (amount Head (field f 4))
+kind_said tables Junction f =
+    JunctionKind (value_said tables Flow (field f 3)) (amount Head (field f 4))
 kind_said tables Discharge f =
-    DischargeKind (amount ValveFlow (field f 3)) (amount ValveLoss (field f 4)) (amount Head (field f 5)) (value_said tables Opening (field f 6)) (amount Head (field f 7))
+    DischargeKind (amount ValveFlow (field f 3)) (amount ValveLoss (field f 4))
+    (amount Head (field f 5)) (value_said tables Opening (field f 6)) (amount Head (field f 7))
 kind_said tables Inline f =
-    InlineKind (amount ValveFlow (field f 3)) (amount ValveLoss (field f 4)) (value_said tables Opening (field f 5)) (amount Head (field f 6)) (amount Head (field f 7))
+    InlineKind (amount ValveFlow (field f 3)) (amount ValveLoss (field f 4))
+    (value_said tables Opening (field f 5)) (amount Head (field f 6)) (amount Head (field f 7))
 kind_said tables Pump f =
-    PumpKind (table_index tables (referred (field f 3))) (value_said tables SpeedRatio (field f 4)) (amount Head (field f 5)) (amount Head (field f 6))
+    PumpKind (table_index tables (referred (field f 3))) (value_said tables SpeedRatio (field f 4))
+    (amount Head (field f 5)) (amount Head (field f 6))
 kind_said tables Tank f = TankKind (amount Area (field f 3)) (amount Head (field f 4))
-kind_said tables Vessel f = VesselKind (table_index tables (referred (field f 3))) (amount Volume (field f 4))
+kind_said tables Vessel f =
+    VesselKind (table_index tables (referred (field f 3))) (amount Volume (field f 4))
 
 -- the node that line number `line` says, if any
 abbrev pub node_by : List Table → Option Directive → ℕ → List (List ℕ) → Option Node
@@ -96,7 +120,13 @@ node_by tables None line fields = None
 node_by tables (Some (OfSingle single)) line fields = None
 node_by tables (Some (OfTable kind)) line fields = None
 node_by tables (Some (OfNode node)) line fields =
-    Some (record { name = field fields 1; line = line; elevation = amount Elevation (field fields 2); kind = kind_said tables node fields })
+    Some (record {
+      name = field fields 1;
+      line = line;
+      elevation = amount Elevation
+          (field fields 2);
+      kind = kind_said tables node fields;
+    })
 node_by tables (Some OfPipe) line fields = None
 node_by tables (Some OfProbe) line fields = None
 node_by tables (Some OfWatch) line fields = None
@@ -106,7 +136,8 @@ node_said tables line fields = node_by tables (said fields) line fields
 
 abbrev pub nodes_from : List Table → ℕ → List (List (List ℕ)) → List Node
 nodes_from tables line [] = []
-nodes_from tables line (fields ∷ more) = cons_option (node_said tables line fields) (nodes_from tables (line + 1) more)
+nodes_from tables line (fields ∷ more) =
+    cons_option (node_said tables line fields) (nodes_from tables (line + 1) more)
 
 -- the pipe that line number `line` says, if any
 unfoldable pub pipe_of : List Node → ℕ → List (List ℕ) → Pipe
@@ -136,7 +167,8 @@ pipe_said nodes line fields = pipe_by nodes (said fields) line fields
 
 abbrev pub pipes_from : List Node → ℕ → List (List (List ℕ)) → List Pipe
 pipes_from nodes line [] = []
-pipes_from nodes line (fields ∷ more) = cons_option (pipe_said nodes line fields) (pipes_from nodes (line + 1) more)
+pipes_from nodes line (fields ∷ more) =
+    cons_option (pipe_said nodes line fields) (pipes_from nodes (line + 1) more)
 
 -- the probe or watch that line number `line` says, if any
 abbrev pub probe_by : List Pipe → List Node → Option Directive → ℕ → List (List ℕ) → Option Probe
@@ -146,15 +178,21 @@ probe_by pipes nodes (Some (OfTable kind)) line fields = None
 probe_by pipes nodes (Some (OfNode node)) line fields = None
 probe_by pipes nodes (Some OfPipe) line fields = None
 probe_by pipes nodes (Some OfProbe) line fields =
-    Some (record { line = line; at = OnPipe (pipe_index pipes (field fields 1)) (unsigned_abs (amount PipePlace (field fields 2))) })
-probe_by pipes nodes (Some OfWatch) line fields = Some (record { line = line; at = OnNode (node_index nodes (field fields 1)) })
+    Some (record {
+      line = line;
+      at = OnPipe (pipe_index pipes (field fields 1))
+          (unsigned_abs (amount PipePlace (field fields 2)));
+    })
+probe_by pipes nodes (Some OfWatch) line fields =
+    Some (record { line = line; at = OnNode (node_index nodes (field fields 1)) })
 
 unfoldable pub probe_said : List Pipe → List Node → ℕ → List (List ℕ) → Option Probe
 probe_said pipes nodes line fields = probe_by pipes nodes (said fields) line fields
 
 abbrev pub probes_from : List Pipe → List Node → ℕ → List (List (List ℕ)) → List Probe
 probes_from pipes nodes line [] = []
-probes_from pipes nodes line (fields ∷ more) = cons_option (probe_said pipes nodes line fields) (probes_from pipes nodes (line + 1) more)
+probes_from pipes nodes line (fields ∷ more) =
+    cons_option (probe_said pipes nodes line fields) (probes_from pipes nodes (line + 1) more)
 
 -- the parts that a text says
 abbrev pub tables_of : List (List (List ℕ)) → List Table

@@ -7,20 +7,24 @@ use denote.Ref.{Bor}
 use Rattle.case_model.specs.declared.cases.Table.{Table}
 use Rattle.case_model.specs.declared.cases.Node.{Node}
 use Rattle.case_model.specs.declared.cases.Pipe.{Pipe}
-
-abbrev pub same_bytes : Bor (List ℕ) → Bor (List ℕ) → Bool
-same_bytes x y = bytes_eq x.now y.now
+use Rattle.case_rules.specs.Known.{same_bytes}
 
 -- each name has the index of the first table of this name, and no other name has one
 abbrev pub IndexTables : {S : Type 0} → HashMap (Bor (List ℕ)) ℕ S → List Table → Type 0
-IndexTables indices tables = (name : Bor (List ℕ)) → get same_bytes indices name ≡ position_from (λ t. bytes_eq t.name name.now) 0 tables
+IndexTables indices tables =
+    (name : Bor (List ℕ)) → get same_bytes indices name
+    ≡ position_from (λ t. bytes_eq t.name name.now) 0 tables
 
 -- the same of nodes, and of pipes
 abbrev pub IndexNodes : {S : Type 0} → HashMap (Bor (List ℕ)) ℕ S → List Node → Type 0
-IndexNodes indices nodes = (name : Bor (List ℕ)) → get same_bytes indices name ≡ position_from (λ n. bytes_eq n.name name.now) 0 nodes
+IndexNodes indices nodes =
+    (name : Bor (List ℕ)) → get same_bytes indices name
+    ≡ position_from (λ n. bytes_eq n.name name.now) 0 nodes
 
 abbrev pub IndexPipes : {S : Type 0} → HashMap (Bor (List ℕ)) ℕ S → List Pipe → Type 0
-IndexPipes indices pipes = (name : Bor (List ℕ)) → get same_bytes indices name ≡ position_from (λ p. bytes_eq p.name name.now) 0 pipes
+IndexPipes indices pipes =
+    (name : Bor (List ℕ)) → get same_bytes indices name
+    ≡ position_from (λ p. bytes_eq p.name name.now) 0 pipes
 
 -- an index that is there already, or else a new one where the name is that of the new part
 abbrev pub or_index : Option ℕ → Bool → ℕ → Option ℕ

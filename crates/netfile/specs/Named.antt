@@ -10,4 +10,5 @@ abbrev pub IsNamed : List (List ℕ) → Type 0
 IsNamed fields = is_definition fields ≡ true → length (field fields 1) ≤ 32
 
 abbrev pub IsPlaced : List (List ℕ) → Type 0
-IsPlaced fields = said fields ≡ Some OfProbe → unsigned_abs (amount PipePlace (field fields 2)) ≤ 65_536
+IsPlaced fields =
+    said fields ≡ Some OfProbe → unsigned_abs (amount PipePlace (field fields 2)) ≤ 65_536

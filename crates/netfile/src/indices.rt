@@ -6,8 +6,10 @@ ghost use Rattle.case_model.specs.declared.cases.Pipe.{Pipe};
 ghost use denote.Ref.{Bor};
 ghost use Rattle.std.specs.HashMap.{get};
 ghost use Rattle.std.specs.Str.{bytes_eq};
-ghost use Rattle.netfile.specs.Indices.{IndexTables, IndexNodes, IndexPipes, same_bytes, or_index};
-ghost use Rattle.netfile.specs.Built.{table_index as index_of_table, node_index as index_of_node, pipe_index as index_of_pipe};
+ghost use Rattle.case_rules.specs.Known.{same_bytes};
+ghost use Rattle.netfile.specs.Indices.{IndexTables, IndexNodes, IndexPipes, or_index};
+ghost use Rattle.netfile.specs.Built.{table_index as index_of_table, node_index as index_of_node};
+ghost use Rattle.netfile.specs.Built.{pipe_index as index_of_pipe};
 
 use case_model::{Node, Pipe, Table};
 use std::alloc::{AllocError, Global};
@@ -31,7 +33,8 @@ pub(crate) fn table_indices(
 /// The index of the table of a name; 0 where there is none.
 #[tactic(auto, unfolding(crate::specs::Built::table_index))]
 pub(crate) fn table_index(indices: &HashMap<&[u8], u32>, name: &[u8]) -> u32
-    ensures { (tables : Items Table) → IndexTables indices.now tables → result ≡ index_of_table tables name.now }
+    ensures { (tables : Items Table) → IndexTables indices.now tables →
+        result ≡ index_of_table tables name.now }
 {
     indices.get(&name).copied().unwrap_or(0)
 }
@@ -51,7 +54,8 @@ pub(crate) fn node_indices(alloc: Global, nodes: &[Node]) -> Result<HashMap<&[u8
 /// The index of the node of a name; 0 where there is none.
 #[tactic(auto, unfolding(crate::specs::Built::node_index))]
 pub(crate) fn node_index(indices: &HashMap<&[u8], u32>, name: &[u8]) -> u32
-    ensures { (nodes : Items Node) → IndexNodes indices.now nodes → result ≡ index_of_node nodes name.now }
+    ensures { (nodes : Items Node) → IndexNodes indices.now nodes →
+        result ≡ index_of_node nodes name.now }
 {
     indices.get(&name).copied().unwrap_or(0)
 }
@@ -71,7 +75,8 @@ pub(crate) fn pipe_indices(alloc: Global, pipes: &[Pipe]) -> Result<HashMap<&[u8
 /// The index of the pipe of a name; 0 where there is none.
 #[tactic(auto, unfolding(crate::specs::Built::pipe_index))]
 pub(crate) fn pipe_index(indices: &HashMap<&[u8], u32>, name: &[u8]) -> u32
-    ensures { (pipes : Items Pipe) → IndexPipes indices.now pipes → result ≡ index_of_pipe pipes name.now }
+    ensures { (pipes : Items Pipe) → IndexPipes indices.now pipes →
+        result ≡ index_of_pipe pipes name.now }
 {
     indices.get(&name).copied().unwrap_or(0)
 }
@@ -82,7 +87,9 @@ fn add_index<'a>(
     name: &'a [u8],
     index: u32,
 ) -> Result<(), AllocError>
-    ensures { IfOk result (λ u. (q : Bor (Items ℕ)) → get same_bytes indices.new q ≡ or_index (get same_bytes indices.old q) (bytes_eq name.now q.now) index) }
+    ensures { IfOk result (λ u. (q : Bor (Items ℕ)) →
+        get same_bytes indices.new q
+        ≡ or_index (get same_bytes indices.old q) (bytes_eq name.now q.now) index) }
 {
     if !indices.contains_key(&name) {
         indices.insert(name, index)?;

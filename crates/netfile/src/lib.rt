@@ -1,4 +1,5 @@
-//! The case text: its meaning, a case and its mesh or the first refusal, its reader, and its writer.
+//! The case text: its meaning, a case and its mesh or the first refusal, its reader, and its
+//! writer.
 #![tactic(auto)]
 
 mod building;

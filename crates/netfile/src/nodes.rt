@@ -5,7 +5,8 @@ ghost use Rattle.case_model.specs.declared.cases.Table.{Table};
 ghost use Rattle.case_rules.specs.Said.{lines_of};
 ghost use Rattle.netfile.specs.Named.{IsNamed};
 ghost use Rattle.netfile.specs.Indices.{IndexTables};
-ghost use Rattle.netfile.specs.Built.{value_said as value_of_field, kind_said as kind_of_line, node_by, node_said as node_of_line, nodes_from};
+ghost use Rattle.netfile.specs.Built.{value_said as value_of_field, kind_said as kind_of_line};
+ghost use Rattle.netfile.specs.Built.{node_by, node_said as node_of_line, nodes_from};
 
 use crate::indices::table_index;
 use crate::tables::add;
@@ -24,7 +25,9 @@ pub(crate) fn nodes(
     requires short { length bytes.now ≤ 8_388_608 }
     requires named { AllByRecursion IsNamed (lines_of bytes.now) }
     ensures few { IfOk result (λ v. length v.items ≤ 8_388_608) }
-    ensures nodes { IfOk result (λ v. (tables : Items Table) → IndexTables indices.now tables → v.items ≡ nodes_from tables 1 (lines_of bytes.now)) }
+    ensures nodes { IfOk result
+        (λ v. (tables : Items Table) → IndexTables indices.now tables →
+        v.items ≡ nodes_from tables 1 (lines_of bytes.now)) }
 {
     let mut found = Vec::new(alloc);
     let mut line = 0u32;
@@ -41,7 +44,8 @@ pub(crate) fn nodes(
 #[tactic(auto, unfolding(crate::specs::Built::node_said, case_rules::specs::Said::is_definition))]
 fn node_said(indices: &HashMap<&[u8], u32>, line: u32, fields: &[&[u8]]) -> Option<Node>
     requires { IsNamed (map (λ f. f.now) fields.now) }
-    ensures { (tables : Items Table) → IndexTables indices.now tables → result ≡ node_of_line tables line (map (λ f. f.now) fields.now) }
+    ensures { (tables : Items Table) → IndexTables indices.now tables →
+        result ≡ node_of_line tables line (map (λ f. f.now) fields.now) }
 {
     match said(fields) {
         Some(Directive::OfNode(word)) => Some(Node {
@@ -62,7 +66,8 @@ fn node_said(indices: &HashMap<&[u8], u32>, line: u32, fields: &[&[u8]]) -> Opti
 // What stands at a node, by the fields of its line.
 #[tactic(auto, unfolding(crate::specs::Built::kind_said))]
 fn kind_said(indices: &HashMap<&[u8], u32>, word: NodeWord, fields: &[&[u8]]) -> NodeKind
-    ensures { (tables : Items Table) → IndexTables indices.now tables → result ≡ kind_of_line tables word (map (λ f. f.now) fields.now) }
+    ensures { (tables : Items Table) → IndexTables indices.now tables →
+        result ≡ kind_of_line tables word (map (λ f. f.now) fields.now) }
 {
     match word {
         NodeWord::Reservoir => NodeKind::Reservoir {
@@ -106,7 +111,8 @@ fn kind_said(indices: &HashMap<&[u8], u32>, word: NodeWord, fields: &[&[u8]]) ->
 // A number, or the table that a reference names.
 #[tactic(auto, unfolding(crate::specs::Built::value_said))]
 fn value_said(indices: &HashMap<&[u8], u32>, quantity: Quantity, text: &[u8]) -> Value
-    ensures { (tables : Items Table) → IndexTables indices.now tables → result ≡ value_of_field tables quantity text.now }
+    ensures { (tables : Items Table) → IndexTables indices.now tables →
+        result ≡ value_of_field tables quantity text.now }
 {
     if is_marked(text) {
         Value::ByTable(table_index(indices, referred(text)))

@@ -6,7 +6,8 @@ ghost use Rattle.case_lines.specs.Fields.{field as field_at};
 ghost use Rattle.case_rules.specs.Said.{lines_of};
 ghost use Rattle.netfile.specs.Named.{IsNamed};
 ghost use Rattle.netfile.specs.Indices.{IndexNodes};
-ghost use Rattle.netfile.specs.Built.{pipe_of as pipe_of_fields, pipe_by, pipe_said as pipe_of_line, pipes_from};
+ghost use Rattle.netfile.specs.Built.{pipe_of as pipe_of_fields, pipe_by};
+ghost use Rattle.netfile.specs.Built.{pipe_said as pipe_of_line, pipes_from};
 
 use crate::indices::node_index;
 use crate::tables::add;
@@ -25,7 +26,9 @@ pub(crate) fn pipes(
     requires short { length bytes.now ≤ 8_388_608 }
     requires named { AllByRecursion IsNamed (lines_of bytes.now) }
     ensures few { IfOk result (λ v. length v.items ≤ 8_388_608) }
-    ensures pipes { IfOk result (λ v. (nodes : Items Node) → IndexNodes indices.now nodes → v.items ≡ pipes_from nodes 1 (lines_of bytes.now)) }
+    ensures pipes { IfOk result
+        (λ v. (nodes : Items Node) → IndexNodes indices.now nodes →
+        v.items ≡ pipes_from nodes 1 (lines_of bytes.now)) }
 {
     let mut found = Vec::new(alloc);
     let mut line = 0u32;
@@ -42,7 +45,8 @@ pub(crate) fn pipes(
 #[tactic(auto, unfolding(crate::specs::Built::pipe_said, case_rules::specs::Said::is_definition))]
 fn pipe_said(indices: &HashMap<&[u8], u32>, line: u32, fields: &[&[u8]]) -> Option<Pipe>
     requires { IsNamed (map (λ f. f.now) fields.now) }
-    ensures { (nodes : Items Node) → IndexNodes indices.now nodes → result ≡ pipe_of_line nodes line (map (λ f. f.now) fields.now) }
+    ensures { (nodes : Items Node) → IndexNodes indices.now nodes →
+        result ≡ pipe_of_line nodes line (map (λ f. f.now) fields.now) }
 {
     match said(fields) {
         Some(Directive::OfPipe) => Some(pipe_of(indices, line, fields)),
@@ -59,7 +63,8 @@ fn pipe_said(indices: &HashMap<&[u8], u32>, line: u32, fields: &[&[u8]]) -> Opti
 #[tactic(auto, unfolding(crate::specs::Built::pipe_of))]
 fn pipe_of(indices: &HashMap<&[u8], u32>, line: u32, fields: &[&[u8]]) -> Pipe
     requires { length (field_at (map (λ f. f.now) fields.now) 1) ≤ 32 }
-    ensures { (nodes : Items Node) → IndexNodes indices.now nodes → result ≡ pipe_of_fields nodes line (map (λ f. f.now) fields.now) }
+    ensures { (nodes : Items Node) → IndexNodes indices.now nodes →
+        result ≡ pipe_of_fields nodes line (map (λ f. f.now) fields.now) }
 {
     Pipe {
         name: Name::of(field(fields, 1)),

@@ -16,7 +16,8 @@ use case_rules::{next_line, said};
 use std::alloc::{AllocError, Global};
 use std::collections::HashMap;
 
-/// The probes and watches that the lines of a text say, in file order. Fails only for want of memory.
+/// The probes and watches that the lines of a text say, in file order. Fails only for want of
+/// memory.
 pub(crate) fn probes(
     alloc: Global,
     bytes: &[u8],
@@ -25,7 +26,8 @@ pub(crate) fn probes(
 ) -> Result<Vec<Probe>, AllocError>
     requires short { length bytes.now ≤ 8_388_608 }
     requires placed { AllByRecursion IsPlaced (lines_of bytes.now) }
-    ensures { IfOk result (λ v. (ps : Items Pipe) (ns : Items Node) → IndexPipes pipes.now ps → IndexNodes nodes.now ns → v.items ≡ probes_from ps ns 1 (lines_of bytes.now)) }
+    ensures { IfOk result (λ v. (ps : Items Pipe) (ns : Items Node) → IndexPipes pipes.now ps →
+        IndexNodes nodes.now ns → v.items ≡ probes_from ps ns 1 (lines_of bytes.now)) }
 {
     let mut found = Vec::new(alloc);
     let mut line = 0u32;
@@ -47,7 +49,8 @@ fn probe_said(
     fields: &[&[u8]],
 ) -> Option<Probe>
     requires { IsPlaced (map (λ f. f.now) fields.now) }
-    ensures { (ps : Items Pipe) (ns : Items Node) → IndexPipes pipes.now ps → IndexNodes nodes.now ns → result ≡ probe_of_line ps ns line (map (λ f. f.now) fields.now) }
+    ensures { (ps : Items Pipe) (ns : Items Node) → IndexPipes pipes.now ps →
+        IndexNodes nodes.now ns → result ≡ probe_of_line ps ns line (map (λ f. f.now) fields.now) }
 {
     match said(fields) {
         Some(Directive::OfProbe) => Some(Probe {

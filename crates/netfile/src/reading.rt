@@ -18,7 +18,8 @@ pub const MOST_BYTES: usize = 8_388_608;
 pub fn read_case(alloc: Global, bytes: &[u8]) -> Result<(Case, Mesh), CaseFault>
     ensures accepted { IfOk result (λ r. verdict bytes.now ≡ Ok (r.0, r.1)) }
     ensures fulfilled { IfOk result (λ r. IsAccepted r.0 r.1) }
-    ensures refused { IfErr result (λ fault. IfSome (refusal_in fault) (λ r. verdict bytes.now ≡ Err r)) }
+    ensures refused { IfErr result
+        (λ fault. IfSome (refusal_in fault) (λ r. verdict bytes.now ≡ Err r)) }
 {
     if bytes.len() > MOST_BYTES {
         return Err(CaseFault::Refused {

@@ -1,5 +1,6 @@
 //! What the single directives of a text give.
-ghost use Rattle.std.specs.Prelude.{◌≡◌, ◌==◌, Option, Some, None, if◌then◌else◌, unwrap_or, codes, IfOk, map};
+ghost use Rattle.std.specs.Prelude.{◌≡◌, ◌==◌, Option, Some, None, if◌then◌else◌, unwrap_or, codes};
+ghost use Rattle.std.specs.Prelude.{IfOk, map};
 ghost use Rattle.std.specs.List.{find};
 ghost use Rattle.case_lines.specs.Fields.{field};
 ghost use Rattle.case_rules.specs.Said.{lines_of, is_single_of};
@@ -49,7 +50,8 @@ pub(crate) fn friction_from(
 
 // How friction is taken by the first line of its directive, or explicitly where there is none.
 fn friction_said(alloc: Global, bytes: &[u8]) -> Result<Friction, AllocError>
-    ensures { IfOk result (λ x. x ≡ friction_by (find (is_single_of (codes "friction")) (lines_of bytes.now))) }
+    ensures { IfOk result (λ x. x
+        ≡ friction_by (find (is_single_of (codes "friction")) (lines_of bytes.now))) }
 {
     let mut rest = bytes;
     'lines: while let Some((fields, others)) = next_line(alloc, rest)? {

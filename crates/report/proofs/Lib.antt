@@ -1,5 +1,4 @@
 pub mod Runs
-pub mod Pieces
 pub mod Numbers
 pub mod PlaceLines
 pub mod Leading
@@ -7,4 +6,5 @@ pub mod Ordered
 pub mod PeakLaws
 pub mod Agreeing
 pub mod Sections
+pub mod Fitting
 pub mod Meshed

@@ -6,15 +6,14 @@ use Rattle.std.proofs.lemmas.Int.{ints}
 use Rattle.case_model.specs.declared.cases.Case.{Case}
 use Rattle.case_model.specs.declared.meshes.Mesh.{Mesh}
 use Rattle.case_model.specs.declared.meshes.PipeMesh.{PipeMesh}
-use Rattle.case_model.specs.Division.{are_accepted, divides, has_coefficients, is_adjusted, is_count, mesh_of, pipe_mesh, reaches_at}
+use Rattle.case_model.specs.Division.{are_accepted, divides, has_coefficients, is_adjusted, is_count, pipe_mesh, reaches_at}
 use Rattle.case_model.specs.Formulas.{b_of, r_of, reach_count}
-use Rattle.case_model.specs.Kept.{IsKept, HasParts}
+use Rattle.case_model.specs.Kept.{HasParts}
 use Rattle.case_model.specs.Parts.{pipe_at}
-use Rattle.case_model.specs.Refusals.{passes}
-use Rattle.case_model.specs.Sets.{AreEmpty}
 use Rattle.regions.specs.LaidOut.{IsCutFor, IsLaidOut}
 use Rattle.regions.specs.Regions.{IsWhole}
 use Rattle.regions.specs.declared.shapes.Layout.{Layout}
+use Rattle.report.proofs.Fitting.{KeptLaw, PartsLaw}
 use Rattle.report.specs.MeshText.{IsMeshed, division_of}
 
 -- ---- the friction of a reach
@@ -45,12 +44,6 @@ unfolding pipe_mesh
 part-friction case p = refl
 
 -- ---- the laws of accepted cases and of their cuts
-
-abbrev pub KeptLaw : Type 0
-KeptLaw = (case : Case) → AreEmpty (passes case) → IsKept case
-
-abbrev pub PartsLaw : Type 0
-PartsLaw = (case : Case) → HasParts case (mesh_of case)
 
 abbrev pub WholeLaw : Type 0
 WholeLaw = (layout : Layout) (mesh : Mesh) → IsLaidOut layout mesh → IsWhole layout

@@ -7,3 +7,4 @@ pub mod Peaks
 pub mod Places
 pub mod Report
 pub mod Reportable
+pub mod Sizes

@@ -1,24 +1,11 @@
--- Lines of fields with one blank between them and a line end after each, and the fields of numbers
--- and labels.
-use Rattle.std.specs.Prelude.{ℕ, ℤ, pos, List, [], ◌∷◌, ◌++◌}
-use Rattle.std.specs.List.{flat_map, join_with_byte}
+-- The fields of numbers and labels.
+use Rattle.std.specs.Prelude.{ℕ, ℤ, List, [], ◌∷◌}
 use Rattle.fixed_num.specs.Written.{written}
+use Rattle.surge_io.specs.Fields.{count_text}
 use Rattle.case_model.specs.Parts.{node_at, pipe_at}
 use Rattle.case_model.specs.declared.cases.Case.{Case}
 use Rattle.case_model.specs.declared.cases.ProbeAt.{ProbeAt}
 use Rattle.case_model.specs.declared.cases.ProbeAt.TheVariants.{OnPipe, OnNode}
-
--- a line of fields
-abbrev pub line_of : List (List ℕ) → List ℕ
-line_of fields = join_with_byte 32 fields ++ 10 ∷ []
-
--- fields with a blank before each
-abbrev pub spaced : List (List ℕ) → List ℕ
-spaced fields = flat_map (λ field. 32 ∷ field) fields
-
--- a step, a place or a count
-abbrev pub count_text : ℕ → List ℕ
-count_text n = written 0 (pos n)
 
 -- a head in 1e-6 m
 abbrev pub head_text : ℤ → List ℕ

@@ -1,6 +1,7 @@
 -- The text of a mesh: how each pipe is divided into reaches, and how space and time are cut into
 -- regions.
-use Rattle.std.specs.Prelude.{◌≡◌, ℕ, ◌+◌, ◌*◌, ◌<◌, ◌≤◌, not, ℤ, pos, unsigned_abs, List, [], ◌∷◌, ◌++◌, length, slice_index_or, codes, All}
+use Rattle.std.specs.Prelude.{◌≡◌, ℕ, ◌+◌, ◌*◌, ◌<◌, ◌≤◌, not, ℤ, pos, unsigned_abs, List, [], ◌∷◌}
+use Rattle.std.specs.Prelude.{◌++◌, length, slice_index_or, codes, All}
 use Rattle.std.specs.List.{filter, flat_map, range_with_len}
 use Rattle.fixed_num.specs.Written.{written}
 use Rattle.case_model.specs.Formulas.{adjusted_speed}
@@ -12,7 +13,7 @@ use Rattle.case_model.specs.declared.meshes.Mesh.{Mesh}
 use Rattle.case_model.specs.declared.meshes.PipeMesh.{PipeMesh}
 use Rattle.regions.specs.Sides.{is_section_shape}
 use Rattle.regions.specs.declared.shapes.Layout.{Layout}
-use Rattle.report.specs.Lines.{line_of, count_text}
+use Rattle.surge_io.specs.Fields.{line_of, count_text}
 
 -- a wave speed in 1e-3 m/s, an impedance in 1e-6 s/m2, the friction of a reach in 1e-12 s2/m5
 abbrev pub speed_text : ℤ → List ℕ

@@ -3,7 +3,8 @@ use Rattle.std.specs.Prelude.{ℕ, zero, suc, List, [], ◌∷◌, Option, Some,
 use Rattle.case_model.specs.PlaceNumbers.{place_at}
 use Rattle.case_model.specs.declared.cases.Case.{Case}
 use Rattle.case_model.specs.declared.meshes.Mesh.{Mesh}
-use Rattle.report.specs.Lines.{line_of, count_text, label}
+use Rattle.surge_io.specs.Fields.{line_of, count_text}
+use Rattle.report.specs.Lines.{label}
 
 -- the line for words that aren't those of a command
 unfoldable pub usage_text : List ℕ

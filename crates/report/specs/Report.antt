@@ -1,17 +1,21 @@
 -- The report of a run: the samples of probes and watches, the cavities, the envelopes of all
 -- places, and the peak.
-use Rattle.std.specs.Prelude.{ℕ, ◌+◌, ◌*◌, ◌/◌, ◌&&◌, not, Bool, true, false, pos, int_lt, if◌then◌else◌, List, [], ◌∷◌, ◌++◌, length, map, codes, Option, Some, None}
+use Rattle.std.specs.Prelude.{ℕ, ◌+◌, ◌*◌, ◌/◌, ◌&&◌, not, Bool, true, false, pos, int_lt}
+use Rattle.std.specs.Prelude.{if◌then◌else◌, List, [], ◌∷◌, ◌++◌, length, map, codes, Option, Some}
+use Rattle.std.specs.Prelude.{None}
 use Rattle.std.specs.List.{flat_map, range_with_len}
 use Rattle.case_model.specs.Parts.{node_at, probe_at}
 use Rattle.case_model.specs.Samples.{Sample}
 use Rattle.case_model.specs.declared.cases.Case.{Case}
 use Rattle.case_model.specs.declared.cases.NodeKind.{NodeKind}
-use Rattle.case_model.specs.declared.cases.NodeKind.TheVariants.{Reservoir, Junction, Discharge, Inline, Pump, Tank, Vessel}
+use Rattle.case_model.specs.declared.cases.NodeKind.TheVariants.{Reservoir, Junction, Discharge}
+use Rattle.case_model.specs.declared.cases.NodeKind.TheVariants.{Inline, Pump, Tank, Vessel}
 use Rattle.case_model.specs.declared.cases.ProbeAt.{ProbeAt}
 use Rattle.case_model.specs.declared.cases.ProbeAt.TheVariants.{OnPipe, OnNode}
 use Rattle.case_model.specs.declared.meshes.Mesh.{Mesh}
 use Rattle.envelope.specs.declared.extremes.Extreme.{Extreme}
-use Rattle.report.specs.Lines.{line_of, count_text, head_text, flow_text, volume_text, label}
+use Rattle.surge_io.specs.Fields.{line_of, count_text}
+use Rattle.report.specs.Lines.{head_text, flow_text, volume_text, label}
 use Rattle.report.specs.Peaks.{highest, lowest}
 use Rattle.report.specs.Places.{places}
 

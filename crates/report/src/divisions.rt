@@ -1,14 +1,17 @@
 //! The lines of a mesh: the division of each pipe, and the count of regions.
-ghost use Rattle.std.specs.Prelude.{◌≡◌, ◌≤◌, ◌<◌, ◌+◌, ◌*◌, ◌++◌, ◌∷◌, [], codes, pos, length, unsigned_abs};
+ghost use Rattle.std.specs.Prelude.{◌≡◌, ◌≤◌, ◌<◌, ◌+◌, ◌*◌, ◌++◌, ◌∷◌, [], codes, pos, length};
+ghost use Rattle.std.specs.Prelude.{unsigned_abs};
 ghost use Rattle.std.specs.List.{filter};
 ghost use Rattle.fixed_num.specs.Rounding.{rnd as rounded};
 ghost use Rattle.case_model.specs.Formulas.{adjusted_speed};
 ghost use Rattle.case_model.specs.Limits.{IsWithin};
 ghost use Rattle.regions.specs.Sides.{is_section_shape};
-ghost use Rattle.report.specs.Lines.{count_text, line_of, spaced};
-ghost use Rattle.report.specs.MeshText.{IsCounted, IsMeshed, division_line, friction_text, impedance_text, regions_of, sections_of, speed_of, speed_text, window_line};
+ghost use Rattle.surge_io.specs.Fields.{count_text, fields_text, line_of};
+ghost use Rattle.report.specs.MeshText.{IsCounted, IsMeshed, division_line, friction_text};
+ghost use Rattle.report.specs.MeshText.{impedance_text, regions_of, sections_of, speed_of};
+ghost use Rattle.report.specs.MeshText.{speed_text, window_line};
 
-use crate::fields::{add_count, add_field, add_friction, add_impedance, add_speed};
+use crate::fields::{add_friction, add_impedance, add_speed};
 use case_model::{Case, Mesh, PipeMesh};
 use fixed_num::rnd;
 use regions::{Layout, Shape};
@@ -50,11 +53,11 @@ fn line_of_division(name: &[u8], division: &PipeMesh, speed: i128) -> Line
 fn add_pipe(line: &mut Line, name: &[u8], reaches: u32)
     requires room { length line.old ≤ 100 }
     requires name { length name.now ≤ 32 }
-    ensures text { line.new ≡ line.old ++ spaced (name.now ∷ count_text reaches ∷ []) }
+    ensures text { line.new ≡ line.old ++ fields_text (name.now ∷ count_text reaches ∷ []) }
     ensures few { length line.new ≤ length line.old + 56 }
 {
-    add_field(line, name);
-    add_count(line, reaches as u64);
+    line.add_field(name);
+    line.add_count(reaches as u64);
 }
 
 // The wave speed at which a wave passes one reach of a pipe in one time step, in 1e-3 m/s.
@@ -97,11 +100,11 @@ pub(crate) fn window_line(layout: &Layout) -> Line
 {
     let mut line = Line::new();
     line.push(b"window");
-    add_count(&mut line, layout.window);
-    add_field(&mut line, b"strands");
-    add_count(&mut line, layout.shapes.as_slice().len() as u64);
-    add_field(&mut line, b"regions");
-    add_count(&mut line, regions_of(layout));
+    line.add_count(layout.window);
+    line.add_field(b"strands");
+    line.add_count(layout.shapes.as_slice().len() as u64);
+    line.add_field(b"regions");
+    line.add_count(regions_of(layout));
     line.push(b"\n");
     line
 }

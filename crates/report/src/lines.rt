@@ -1,11 +1,13 @@
 //! The lines of a report.
 ghost use Rattle.std.specs.Prelude.{◌≡◌, ◌≤◌, ◌+◌, ◌++◌, ◌∷◌, [], length};
 ghost use Rattle.envelope.specs.Lines.{told};
-ghost use Rattle.report.specs.Lines.{count_text, flow_text, head_text, spaced, volume_text};
+ghost use Rattle.surge_io.specs.Fields.{count_text, fields_text};
+ghost use Rattle.report.specs.Lines.{flow_text, head_text, volume_text};
 ghost use Rattle.report.specs.Places.{IsNamed};
-ghost use Rattle.report.specs.Report.{cavity_line, envelope_line, has_gas, is_vessel, or_zeros, peak_line, sample_line, sample_numbers, sample_word};
+ghost use Rattle.report.specs.Report.{cavity_line, envelope_line, has_gas, is_vessel, or_zeros};
+ghost use Rattle.report.specs.Report.{peak_line, sample_line, sample_numbers, sample_word};
 
-use crate::fields::{add_count, add_field, add_flow, add_head, add_label, add_volume};
+use crate::fields::{add_flow, add_head, add_label, add_volume};
 use case_model::{Case, NodeKind, ProbeAt};
 use envelope::{Extreme, Sample};
 use surge_io::Line;
@@ -19,7 +21,7 @@ pub(crate) fn sample_line(case: &Case, at: ProbeAt, step: u64, sample: Option<Sa
     let mut line = Line::new();
     line.push(sample_word(at));
     add_label(&mut line, case, at);
-    add_count(&mut line, step);
+    line.add_count(step);
     add_sample(&mut line, at, &sample_or_zeros(sample));
     line.push(b"\n");
     line
@@ -55,7 +57,7 @@ fn sample_or_zeros(sample: Option<Sample>) -> Sample
 fn add_sample(line: &mut Line, at: ProbeAt, sample: &Sample)
     requires { length line.old ≤ 164 }
     ensures text { line.new ≡ line.old
-        ++ spaced
+        ++ fields_text
         (sample_numbers at
         (record { h = sample.now.h; qu = sample.now.qu; qd = sample.now.qd; v = sample.now.v })) }
     ensures few { length line.new ≤ length line.old + 92 }
@@ -70,7 +72,7 @@ fn add_sample(line: &mut Line, at: ProbeAt, sample: &Sample)
 fn add_point(line: &mut Line, sample: &Sample)
     requires { length line.old ≤ 164 }
     ensures text { line.new ≡ line.old
-        ++ spaced (head_text sample.now.h ∷ flow_text sample.now.qu ∷ flow_text sample.now.qd
+        ++ fields_text (head_text sample.now.h ∷ flow_text sample.now.qu ∷ flow_text sample.now.qd
         ∷ volume_text sample.now.v ∷ []) }
     ensures few { length line.new ≤ length line.old + 92 }
 {
@@ -83,7 +85,7 @@ fn add_point(line: &mut Line, sample: &Sample)
 fn add_state(line: &mut Line, sample: &Sample)
     requires { length line.old ≤ 164 }
     ensures text { line.new ≡ line.old
-        ++ spaced (head_text sample.now.h ∷ flow_text sample.now.qd ∷ volume_text sample.now.v
+        ++ fields_text (head_text sample.now.h ∷ flow_text sample.now.qd ∷ volume_text sample.now.v
         ∷ []) }
     ensures few { length line.new ≤ length line.old + 92 }
 {
@@ -95,7 +97,7 @@ fn add_state(line: &mut Line, sample: &Sample)
 fn add_downstream(line: &mut Line, sample: &Sample)
     requires { length line.old ≤ 210 }
     ensures text { line.new ≡ line.old
-        ++ spaced (flow_text sample.now.qd ∷ volume_text sample.now.v ∷ []) }
+        ++ fields_text (flow_text sample.now.qd ∷ volume_text sample.now.v ∷ []) }
     ensures few { length line.new ≤ length line.old + 46 }
 {
     add_flow(line, sample.qd);
@@ -138,7 +140,7 @@ pub(crate) fn cavity_line(case: &Case, at: ProbeAt, extreme: &Extreme) -> Line
         line.push(b"cavity");
         add_label(&mut line, case, at);
         add_volume(&mut line, extreme.volume);
-        add_count(&mut line, extreme.volume_step);
+        line.add_count(extreme.volume_step);
         line.push(b"\n");
     }
     line
@@ -147,11 +149,11 @@ pub(crate) fn cavity_line(case: &Case, at: ProbeAt, extreme: &Extreme) -> Line
 // Adds a head and the first step at which it stands.
 fn add_head_at(line: &mut Line, head: i64, step: u64)
     requires { length line.old ≤ 210 }
-    ensures text { line.new ≡ line.old ++ spaced (head_text head ∷ count_text step ∷ []) }
+    ensures text { line.new ≡ line.old ++ fields_text (head_text head ∷ count_text step ∷ []) }
     ensures few { length line.new ≤ length line.old + 46 }
 {
     add_head(line, head);
-    add_count(line, step);
+    line.add_count(step);
 }
 
 // The line of the greatest and the least head of a place.
@@ -186,7 +188,7 @@ pub(crate) fn peak_line(
     line.push(b"peak");
     add_label(&mut line, case, high);
     add_head_at(&mut line, greatest.max, greatest.max_step);
-    add_field(&mut line, b"low");
+    line.add_field(b"low");
     add_label(&mut line, case, low);
     add_head_at(&mut line, least.min, least.min_step);
     line.push(b"\n");

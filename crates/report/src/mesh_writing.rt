@@ -1,10 +1,9 @@
 //! The text of a mesh, line by line through a page.
-ghost use Rattle.std.specs.Prelude.{◌≡◌, ◌≤◌, ◌<◌, length, OnOk, OnErr};
-ghost use Rattle.surge_io.specs.Bytes.{Appends, AppendsFront};
-ghost use Rattle.surge_io.specs.Faults.{Rose};
-ghost use Rattle.surge_io.specs.Pages.{Adds, AddsFront};
+ghost use Rattle.std.specs.Prelude.{◌≡◌, ◌≤◌, ◌<◌, length};
+ghost use Rattle.surge_io.specs.Writings.{IsAdded, IsWritten};
 ghost use Rattle.regions.specs.LaidOut.{IsCutFor};
-ghost use Rattle.report.specs.MeshText.{IsMeshed, division_line, division_lines, mesh_text, window_line};
+ghost use Rattle.report.specs.MeshText.{IsMeshed, division_line, division_lines, mesh_text};
+ghost use Rattle.report.specs.MeshText.{window_line};
 
 use crate::divisions::{division_line, window_line};
 use case_model::{Case, Mesh, accepted_cases_are_kept};
@@ -21,12 +20,8 @@ pub fn write_mesh<K: Sink>(
     out: &mut K,
 ) -> Result<(), Failed>
     requires { IsCutFor case.now layout.now mesh.now }
-    ensures all { OnOk result
-        (Appends (K.held out.old) (K.held out.new) (mesh_text case.now mesh.now layout.now)) }
-    ensures front { OnErr result
-        (AppendsFront (K.held out.old) (K.held out.new) (mesh_text case.now mesh.now layout.now)) }
-    ensures cause { OnErr result (Rose (K.faults out.old) (K.faults out.new)) }
-    ensures later { K.faults out.old ≤ K.faults out.new }
+    ensures { IsWritten K.held K.faults result out.old out.new
+        (mesh_text case.now mesh.now layout.now) }
 {
     limits(case, mesh, layout);
     let mut page = Page::new();
@@ -55,14 +50,8 @@ fn add_mesh<K: Sink>(
     out: &mut K,
 ) -> Result<(), Failed>
     requires { IsMeshed case.now mesh.now layout.now }
-    ensures all { OnOk result
-        (Adds (K.held out.old) page.old (K.held out.new) page.new
-        (mesh_text case.now mesh.now layout.now)) }
-    ensures front { OnErr result
-        (AddsFront (K.held out.old) page.old (K.held out.new)
-        (mesh_text case.now mesh.now layout.now)) }
-    ensures cause { OnErr result (Rose (K.faults out.old) (K.faults out.new)) }
-    ensures later { K.faults out.old ≤ K.faults out.new }
+    ensures { IsAdded K.held K.faults result out.old page.old out.new page.new
+        (mesh_text case.now mesh.now layout.now) }
 {
     add_divisions(case, mesh, layout, page, out)?;
     let line = window_line(layout);
@@ -78,13 +67,8 @@ fn add_divisions<K: Sink>(
     out: &mut K,
 ) -> Result<(), Failed>
     requires { IsMeshed case.now mesh.now layout.now }
-    ensures all { OnOk result
-        (Adds (K.held out.old) page.old (K.held out.new) page.new
-        (division_lines case.now mesh.now)) }
-    ensures front { OnErr result
-        (AddsFront (K.held out.old) page.old (K.held out.new) (division_lines case.now mesh.now)) }
-    ensures cause { OnErr result (Rose (K.faults out.old) (K.faults out.new)) }
-    ensures later { K.faults out.old ≤ K.faults out.new }
+    ensures { IsAdded K.held K.faults result out.old page.old out.new page.new
+        (division_lines case.now mesh.now) }
 {
     for p in 0..case.pipes.as_slice().len() {
         let line = division_line(case, mesh, layout, p as u32);

@@ -1,15 +1,15 @@
 //! The texts of one line: usage, acceptance, refusals, and the place whose numbers left their
 //! range.
-ghost use Rattle.std.specs.Prelude.{◌≡◌, ◌<◌, ◌≤◌, length, IfSome, OnOk, OnErr};
+ghost use Rattle.std.specs.Prelude.{◌≡◌, ◌<◌, ◌≤◌, length, IfSome};
 ghost use Rattle.std.specs.Option.{option_map};
-ghost use Rattle.case_model.specs.Mesh.{IsNumbered};
-ghost use Rattle.surge_io.specs.Bytes.{Appends, AppendsFront};
-ghost use Rattle.surge_io.specs.Faults.{Rose};
-ghost use Rattle.report.specs.Messages.{accepted_text, range_text, reason_of, refusal_text, usage_text};
-ghost use Rattle.report.specs.Reportable.{IsSized};
+ghost use Rattle.case_model.specs.Accepted.{IsAccepted};
+ghost use Rattle.surge_io.specs.Writings.{IsWritten};
+ghost use Rattle.report.specs.Messages.{accepted_text, range_text, reason_of, refusal_text};
+ghost use Rattle.report.specs.Messages.{usage_text};
 
-use crate::fields::{add_count, add_field, add_label};
+use crate::fields::add_label;
 use crate::places::place_at;
+use crate::sizing::sizes;
 use case_model::{Case, Mesh};
 use surge_io::{Failed, Line, Sink, put};
 
@@ -18,10 +18,7 @@ use surge_io::{Failed, Line, Sink, put};
 /// was written.
 #[tactic(auto, unfolding(crate::specs::Messages::usage_text))]
 pub fn write_usage<K: Sink>(out: &mut K) -> Result<(), Failed>
-    ensures all { OnOk result (Appends (K.held out.old) (K.held out.new) usage_text) }
-    ensures front { OnErr result (AppendsFront (K.held out.old) (K.held out.new) usage_text) }
-    ensures cause { OnErr result (Rose (K.faults out.old) (K.faults out.new)) }
-    ensures later { K.faults out.old ≤ K.faults out.new }
+    ensures { IsWritten K.held K.faults result out.old out.new usage_text }
 {
     put(
         out,
@@ -34,10 +31,7 @@ pub fn write_usage<K: Sink>(out: &mut K) -> Result<(), Failed>
 /// was written.
 #[tactic(auto, unfolding(crate::specs::Messages::accepted_text))]
 pub fn write_accepted<K: Sink>(out: &mut K) -> Result<(), Failed>
-    ensures all { OnOk result (Appends (K.held out.old) (K.held out.new) accepted_text) }
-    ensures front { OnErr result (AppendsFront (K.held out.old) (K.held out.new) accepted_text) }
-    ensures cause { OnErr result (Rose (K.faults out.old) (K.faults out.new)) }
-    ensures later { K.faults out.old ≤ K.faults out.new }
+    ensures { IsWritten K.held K.faults result out.old out.new accepted_text }
 {
     put(out, b"accepted\n")
 }
@@ -46,11 +40,7 @@ pub fn write_accepted<K: Sink>(out: &mut K) -> Result<(), Failed>
 /// 0. A number that isn't that of a refusal has no reason. `Failed` comes only where the sink's
 /// count of faults rose in this call, and then a first part was written.
 pub fn write_refusal<K: Sink>(number: u8, line: u64, out: &mut K) -> Result<(), Failed>
-    ensures all { OnOk result (Appends (K.held out.old) (K.held out.new) (refusal_text number line)) }
-    ensures front { OnErr result
-        (AppendsFront (K.held out.old) (K.held out.new) (refusal_text number line)) }
-    ensures cause { OnErr result (Rose (K.faults out.old) (K.faults out.new)) }
-    ensures later { K.faults out.old ≤ K.faults out.new }
+    ensures { IsWritten K.held K.faults result out.old out.new (refusal_text number line) }
 {
     let text = refusal_line(number, line);
     put(out, text.as_bytes())
@@ -66,16 +56,10 @@ pub fn write_range<K: Sink>(
     place: u64,
     out: &mut K,
 ) -> Result<(), Failed>
-    requires sized { IsSized case.now mesh.now }
-    requires numbered { IsNumbered mesh.now }
-    requires few { mesh.now.places ≤ 400_000 }
+    requires accepted { IsAccepted case.now mesh.now }
     requires there { place < mesh.now.places }
-    ensures all { OnOk result
-        (Appends (K.held out.old) (K.held out.new) (range_text case.now mesh.now step place)) }
-    ensures front { OnErr result
-        (AppendsFront (K.held out.old) (K.held out.new) (range_text case.now mesh.now step place)) }
-    ensures cause { OnErr result (Rose (K.faults out.old) (K.faults out.new)) }
-    ensures later { K.faults out.old ≤ K.faults out.new }
+    ensures { IsWritten K.held K.faults result out.old out.new
+        (range_text case.now mesh.now step place) }
 {
     let text = range_line(case, mesh, step, place);
     put(out, text.as_bytes())
@@ -113,11 +97,11 @@ fn refusal_line(number: u8, line: u64) -> Line
 {
     let mut text = Line::new();
     text.push(b"refused");
-    add_count(&mut text, number as u64);
-    add_field(&mut text, b"line");
-    add_count(&mut text, line);
+    text.add_count(number as u64);
+    text.add_field(b"line");
+    text.add_count(line);
     if let Some(reason) = reason_of(number) {
-        add_field(&mut text, reason);
+        text.add_field(reason);
     }
     text.push(b"\n");
     text
@@ -125,15 +109,14 @@ fn refusal_line(number: u8, line: u64) -> Line
 
 #[tactic(auto, unfolding(crate::specs::Messages::range_text))]
 fn range_line(case: &Case, mesh: &Mesh, step: u64, place: u64) -> Line
-    requires sized { IsSized case.now mesh.now }
-    requires numbered { IsNumbered mesh.now }
-    requires few { mesh.now.places ≤ 400_000 }
+    requires accepted { IsAccepted case.now mesh.now }
     requires there { place < mesh.now.places }
     ensures { result ≡ range_text case.now mesh.now step place }
 {
+    sizes(case, mesh);
     let mut text = Line::new();
     text.push(b"range");
-    add_count(&mut text, step);
+    text.add_count(step);
     add_label(&mut text, case, place_at(mesh, place));
     text.push(b"\n");
     text

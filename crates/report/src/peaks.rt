@@ -41,7 +41,8 @@ fn best_with_pipe(bound: Bound, mesh: &Mesh, fold: &Fold, pipe: u32, best: Probe
     requires pipe { pipe < length mesh.now.pipes }
     requires there { IsOnPipe mesh.now best }
     ensures place { result
-        ≡ folded (better bound (extremes_of mesh.now fold.now)) best (places_of_pipe mesh.now pipe) }
+        ≡ folded (better bound (extremes_of mesh.now fold.now)) best
+        (places_of_pipe mesh.now pipe) }
     ensures there { IsOnPipe mesh.now result }
 {
     let mut best = best;

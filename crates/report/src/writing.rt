@@ -1,17 +1,22 @@
 //! The report of a run, line by line through a page.
-ghost use Rattle.std.specs.Prelude.{◌≡◌, ◌≤◌, ◌<◌, ◌*◌, ◌/◌, length, OnOk, OnErr};
-ghost use Rattle.surge_io.specs.Bytes.{Appends, AppendsFront};
-ghost use Rattle.surge_io.specs.Faults.{Rose};
-ghost use Rattle.surge_io.specs.Pages.{Adds, AddsFront};
-ghost use Rattle.envelope.specs.Kept.{extreme_kept, sample_kept};
-ghost use Rattle.case_model.specs.PlaceNumbers.{IsOn, number_of};
+ghost use Rattle.std.specs.Prelude.{◌≡◌, ◌≤◌, ◌<◌, ◌*◌, ◌/◌, [], ◌∷◌, length};
+ghost use Rattle.surge_io.specs.Writings.{IsAdded, IsWritten};
+ghost use Rattle.case_model.specs.Accepted.{IsAccepted};
+ghost use Rattle.case_model.specs.PlaceNumbers.{IsOn};
+ghost use Rattle.envelope.specs.Folds.{IsFoldOf};
+ghost use Rattle.envelope.specs.Kept.{sample_kept};
+ghost use Rattle.envelope.specs.RowFolds.{probe_numbers};
 ghost use Rattle.report.specs.Parts.{lines_of_pipe, node_lines, part_text, pipe_lines, place_line};
-ghost use Rattle.report.specs.Report.{peak_text, probe_line, probe_lines, report_text, samples_text};
+ghost use Rattle.report.specs.Peaks.{highest as highest_of, lowest as lowest_of};
+ghost use Rattle.report.specs.Places.{IsOnPipe};
+ghost use Rattle.report.specs.Report.{peak_text, probe_line, probe_lines, report_text};
+ghost use Rattle.report.specs.Report.{samples_text};
 ghost use Rattle.report.specs.Reportable.{IsOver, IsReportable, IsSized, extremes_of};
 
 use crate::lines::{cavity_line, envelope_line, peak_line, sample_line};
 use crate::peaks::{Bound, peak_place};
 use crate::places::{extreme_of, places_on};
+use crate::sizing::sizes;
 use case_model::{Case, Mesh, ProbeAt};
 use envelope::Fold;
 use surge_io::{Failed, Line, Page, Sink};
@@ -25,21 +30,36 @@ pub fn write_report<K: Sink>(
     fold: &Fold,
     out: &mut K,
 ) -> Result<(), Failed>
-    requires { IsReportable case.now mesh.now fold.now }
-    ensures all { OnOk result
-        (Appends (K.held out.old) (K.held out.new)
-        (report_text case.now mesh.now (λ at. extreme_kept fold.now (number_of mesh.now at))
-        (sample_kept fold.now))) }
-    ensures front { OnErr result
-        (AppendsFront (K.held out.old) (K.held out.new)
-        (report_text case.now mesh.now (λ at. extreme_kept fold.now (number_of mesh.now at))
-        (sample_kept fold.now))) }
-    ensures cause { OnErr result (Rose (K.faults out.old) (K.faults out.new)) }
-    ensures later { K.faults out.old ≤ K.faults out.new }
+    requires accepted { IsAccepted case.now mesh.now }
+    requires given { let probes = probe_numbers mesh.now case.now in
+        IsFoldOf ((0, mesh.now.places) ∷ []) probes case.now.steps case.now.every fold.now }
+    ensures { IsWritten K.held K.faults result out.old out.new
+        (report_text case.now mesh.now (extremes_of mesh.now fold.now) (sample_kept fold.now)) }
 {
+    let run = Run { case, mesh, fold };
+    limits(&run);
     let mut page = Page::new();
-    add_report(case, mesh, fold, &mut page, out)?;
+    add_report(&run, &mut page, out)?;
     page.flush(out)
+}
+
+// What a report is written of: an accepted case, its mesh, and a fold over all places of that.
+#[derive(Clone, Copy)]
+struct Run<'a> {
+    case: &'a Case,
+    mesh: &'a Mesh,
+    fold: &'a Fold,
+}
+
+// A fold over all places of an accepted case is what its report is written from.
+fn limits(run: &Run)
+    requires accepted { IsAccepted run.now.case.now run.now.mesh.now }
+    requires given { let probes = probe_numbers run.now.mesh.now run.now.case.now in
+        IsFoldOf ((0, run.now.mesh.now.places) ∷ []) probes run.now.case.now.steps
+        run.now.case.now.every run.now.fold.now }
+    ensures { IsReportable run.now.case.now run.now.mesh.now run.now.fold.now }
+{
+    sizes(run.case, run.mesh);
 }
 
 // The parts of a report that have a line for each place.
@@ -50,90 +70,54 @@ pub(crate) enum Part {
 }
 
 // Adds the whole report.
-fn add_report<K: Sink>(
-    case: &Case,
-    mesh: &Mesh,
-    fold: &Fold,
-    page: &mut Page,
-    out: &mut K,
-) -> Result<(), Failed>
-    requires { IsReportable case.now mesh.now fold.now }
-    ensures all { OnOk result
-        (Adds (K.held out.old) page.old (K.held out.new) page.new
-        (report_text case.now mesh.now (extremes_of mesh.now fold.now) (sample_kept fold.now))) }
-    ensures front { OnErr result
-        (AddsFront (K.held out.old) page.old (K.held out.new)
-        (report_text case.now mesh.now (extremes_of mesh.now fold.now) (sample_kept fold.now))) }
-    ensures cause { OnErr result (Rose (K.faults out.old) (K.faults out.new)) }
-    ensures later { K.faults out.old ≤ K.faults out.new }
+fn add_report<K: Sink>(run: &Run, page: &mut Page, out: &mut K) -> Result<(), Failed>
+    requires { IsReportable run.now.case.now run.now.mesh.now run.now.fold.now }
+    ensures { IsAdded K.held K.faults result out.old page.old out.new page.new
+        (report_text run.now.case.now run.now.mesh.now
+        (extremes_of run.now.mesh.now run.now.fold.now) (sample_kept run.now.fold.now)) }
 {
-    add_samples(case, mesh, fold, page, out)?;
-    add_part(Part::Cavities, case, mesh, fold, page, out)?;
-    add_part(Part::Envelopes, case, mesh, fold, page, out)?;
-    add_peak(case, mesh, fold, page, out)
+    add_samples(run, page, out)?;
+    add_part(Part::Cavities, run, page, out)?;
+    add_part(Part::Envelopes, run, page, out)?;
+    add_peak(run, page, out)
 }
 
 // Adds the lines of all probes and watches.
 #[tactic(auto, unfolding(crate::specs::Report::samples_text))]
-fn add_samples<K: Sink>(
-    case: &Case,
-    mesh: &Mesh,
-    fold: &Fold,
-    page: &mut Page,
-    out: &mut K,
-) -> Result<(), Failed>
-    requires { IsReportable case.now mesh.now fold.now }
-    ensures all { OnOk result
-        (Adds (K.held out.old) page.old (K.held out.new) page.new
-        (samples_text case.now (sample_kept fold.now))) }
-    ensures front { OnErr result
-        (AddsFront (K.held out.old) page.old (K.held out.new)
-        (samples_text case.now (sample_kept fold.now))) }
-    ensures cause { OnErr result (Rose (K.faults out.old) (K.faults out.new)) }
-    ensures later { K.faults out.old ≤ K.faults out.new }
+fn add_samples<K: Sink>(run: &Run, page: &mut Page, out: &mut K) -> Result<(), Failed>
+    requires { IsReportable run.now.case.now run.now.mesh.now run.now.fold.now }
+    ensures { IsAdded K.held K.faults result out.old page.old out.new page.new
+        (samples_text run.now.case.now (sample_kept run.now.fold.now)) }
 {
-    for probe in 0..case.probes.as_slice().len() {
-        add_probe(case, mesh, fold, probe as u32, page, out)?;
+    for probe in 0..run.case.probes.as_slice().len() {
+        add_probe(run, probe as u32, page, out)?;
     }
     Ok(())
 }
 
 // Adds the lines of one probe, step by step.
 #[tactic(auto, unfolding(crate::specs::Report::probe_lines))]
-fn add_probe<K: Sink>(
-    case: &Case,
-    mesh: &Mesh,
-    fold: &Fold,
-    probe: u32,
-    page: &mut Page,
-    out: &mut K,
-) -> Result<(), Failed>
-    requires reportable { IsReportable case.now mesh.now fold.now }
-    requires there { probe < length case.now.probes }
-    ensures all { OnOk result
-        (Adds (K.held out.old) page.old (K.held out.new) page.new
-        (probe_lines case.now (sample_kept fold.now) probe)) }
-    ensures front { OnErr result
-        (AddsFront (K.held out.old) page.old (K.held out.new)
-        (probe_lines case.now (sample_kept fold.now) probe)) }
-    ensures cause { OnErr result (Rose (K.faults out.old) (K.faults out.new)) }
-    ensures later { K.faults out.old ≤ K.faults out.new }
+fn add_probe<K: Sink>(run: &Run, probe: u32, page: &mut Page, out: &mut K) -> Result<(), Failed>
+    requires reportable { IsReportable run.now.case.now run.now.mesh.now run.now.fold.now }
+    requires there { probe < length run.now.case.now.probes }
+    ensures { IsAdded K.held K.faults result out.old page.old out.new page.new
+        (probe_lines run.now.case.now (sample_kept run.now.fold.now) probe) }
 {
-    for j in 0..case.steps / case.every + 1 {
-        let line = probe_line(case, mesh, fold, probe, step_of(case, j));
+    for j in 0..run.case.steps / run.case.every + 1 {
+        let line = probe_line(run, probe, step_of(run.case, j));
         page.add(out, line.as_bytes())?;
     }
     Ok(())
 }
 
 // The line of one probe at a step.
-fn probe_line(case: &Case, mesh: &Mesh, fold: &Fold, probe: u32, step: u64) -> Line
-    requires reportable { IsReportable case.now mesh.now fold.now }
-    requires there { probe < length case.now.probes }
-    ensures { result ≡ probe_line case.now (sample_kept fold.now) probe step }
+fn probe_line(run: &Run, probe: u32, step: u64) -> Line
+    requires reportable { IsReportable run.now.case.now run.now.mesh.now run.now.fold.now }
+    requires there { probe < length run.now.case.now.probes }
+    ensures { result ≡ probe_line run.now.case.now (sample_kept run.now.fold.now) probe step }
 {
-    let at = case.probes.as_slice()[probe as usize].at;
-    sample_line(case, at, step, fold.sample(probe, step))
+    let at = run.case.probes.as_slice()[probe as usize].at;
+    sample_line(run.case, at, step, run.fold.sample(probe, step))
 }
 
 // The step of a sample by its index.
@@ -146,93 +130,58 @@ fn step_of(case: &Case, j: u64) -> u64
 }
 
 // The line of a place.
-fn place_line(part: Part, case: &Case, mesh: &Mesh, fold: &Fold, at: ProbeAt) -> Line
-    requires sized { IsSized case.now mesh.now }
-    requires over { IsOver mesh.now fold.now }
-    requires on { IsOn mesh.now at }
-    ensures { result ≡ place_line part case.now (extremes_of mesh.now fold.now) at }
+fn place_line(part: Part, run: &Run, at: ProbeAt) -> Line
+    requires sized { IsSized run.now.case.now run.now.mesh.now }
+    requires over { IsOver run.now.mesh.now run.now.fold.now }
+    requires on { IsOn run.now.mesh.now at }
+    ensures { result
+        ≡ place_line part run.now.case.now (extremes_of run.now.mesh.now run.now.fold.now) at }
 {
-    let extreme = extreme_of(mesh, fold, at);
+    let extreme = extreme_of(run.mesh, run.fold, at);
     match part {
-        Part::Cavities => cavity_line(case, at, &extreme),
-        Part::Envelopes => envelope_line(case, at, &extreme),
+        Part::Cavities => cavity_line(run.case, at, &extreme),
+        Part::Envelopes => envelope_line(run.case, at, &extreme),
     }
 }
 
 // Adds the lines of all places.
-fn add_part<K: Sink>(
-    part: Part,
-    case: &Case,
-    mesh: &Mesh,
-    fold: &Fold,
-    page: &mut Page,
-    out: &mut K,
-) -> Result<(), Failed>
-    requires sized { IsSized case.now mesh.now }
-    requires over { IsOver mesh.now fold.now }
-    ensures all { OnOk result
-        (Adds (K.held out.old) page.old (K.held out.new) page.new
-        (part_text part case.now mesh.now (extremes_of mesh.now fold.now))) }
-    ensures front { OnErr result
-        (AddsFront (K.held out.old) page.old (K.held out.new)
-        (part_text part case.now mesh.now (extremes_of mesh.now fold.now))) }
-    ensures cause { OnErr result (Rose (K.faults out.old) (K.faults out.new)) }
-    ensures later { K.faults out.old ≤ K.faults out.new }
+fn add_part<K: Sink>(part: Part, run: &Run, page: &mut Page, out: &mut K) -> Result<(), Failed>
+    requires sized { IsSized run.now.case.now run.now.mesh.now }
+    requires over { IsOver run.now.mesh.now run.now.fold.now }
+    ensures { IsAdded K.held K.faults result out.old page.old out.new page.new
+        (part_text part run.now.case.now run.now.mesh.now
+        (extremes_of run.now.mesh.now run.now.fold.now)) }
 {
-    add_nodes(part, case, mesh, fold, page, out)?;
-    add_pipes(part, case, mesh, fold, page, out)
+    add_nodes(part, run, page, out)?;
+    add_pipes(part, run, page, out)
 }
 
 // Adds the lines of all nodes.
-fn add_nodes<K: Sink>(
-    part: Part,
-    case: &Case,
-    mesh: &Mesh,
-    fold: &Fold,
-    page: &mut Page,
-    out: &mut K,
-) -> Result<(), Failed>
-    requires sized { IsSized case.now mesh.now }
-    requires over { IsOver mesh.now fold.now }
-    ensures all { OnOk result
-        (Adds (K.held out.old) page.old (K.held out.new) page.new
-        (node_lines part case.now mesh.now (extremes_of mesh.now fold.now))) }
-    ensures front { OnErr result
-        (AddsFront (K.held out.old) page.old (K.held out.new)
-        (node_lines part case.now mesh.now (extremes_of mesh.now fold.now))) }
-    ensures cause { OnErr result (Rose (K.faults out.old) (K.faults out.new)) }
-    ensures later { K.faults out.old ≤ K.faults out.new }
+fn add_nodes<K: Sink>(part: Part, run: &Run, page: &mut Page, out: &mut K) -> Result<(), Failed>
+    requires sized { IsSized run.now.case.now run.now.mesh.now }
+    requires over { IsOver run.now.mesh.now run.now.fold.now }
+    ensures { IsAdded K.held K.faults result out.old page.old out.new page.new
+        (node_lines part run.now.case.now run.now.mesh.now
+        (extremes_of run.now.mesh.now run.now.fold.now)) }
 {
-    for k in 0..mesh.ends.as_slice().len() {
+    for k in 0..run.mesh.ends.as_slice().len() {
         let node = k as u32;
-        let line = place_line(part, case, mesh, fold, ProbeAt::OnNode { node });
+        let line = place_line(part, run, ProbeAt::OnNode { node });
         page.add(out, line.as_bytes())?;
     }
     Ok(())
 }
 
 // Adds the lines of the places of all pipes.
-fn add_pipes<K: Sink>(
-    part: Part,
-    case: &Case,
-    mesh: &Mesh,
-    fold: &Fold,
-    page: &mut Page,
-    out: &mut K,
-) -> Result<(), Failed>
-    requires sized { IsSized case.now mesh.now }
-    requires over { IsOver mesh.now fold.now }
-    ensures all { OnOk result
-        (Adds (K.held out.old) page.old (K.held out.new) page.new
-        (pipe_lines part case.now mesh.now (extremes_of mesh.now fold.now))) }
-    ensures front { OnErr result
-        (AddsFront (K.held out.old) page.old (K.held out.new)
-        (pipe_lines part case.now mesh.now (extremes_of mesh.now fold.now))) }
-    ensures cause { OnErr result (Rose (K.faults out.old) (K.faults out.new)) }
-    ensures later { K.faults out.old ≤ K.faults out.new }
+fn add_pipes<K: Sink>(part: Part, run: &Run, page: &mut Page, out: &mut K) -> Result<(), Failed>
+    requires sized { IsSized run.now.case.now run.now.mesh.now }
+    requires over { IsOver run.now.mesh.now run.now.fold.now }
+    ensures { IsAdded K.held K.faults result out.old page.old out.new page.new
+        (pipe_lines part run.now.case.now run.now.mesh.now
+        (extremes_of run.now.mesh.now run.now.fold.now)) }
 {
-    for p in 0..mesh.pipes.as_slice().len() {
-        add_pipe(part, case, mesh, fold, p as u32, page, out)?;
+    for p in 0..run.mesh.pipes.as_slice().len() {
+        add_pipe(part, run, p as u32, page, out)?;
     }
     Ok(())
 }
@@ -241,63 +190,70 @@ fn add_pipes<K: Sink>(
 #[tactic(auto, unfolding(crate::specs::Parts::lines_of_pipe))]
 fn add_pipe<K: Sink>(
     part: Part,
-    case: &Case,
-    mesh: &Mesh,
-    fold: &Fold,
+    run: &Run,
     pipe: u32,
     page: &mut Page,
     out: &mut K,
 ) -> Result<(), Failed>
-    requires sized { IsSized case.now mesh.now }
-    requires over { IsOver mesh.now fold.now }
-    requires pipe { pipe < length mesh.now.pipes }
-    ensures all { OnOk result
-        (Adds (K.held out.old) page.old (K.held out.new) page.new
-        (lines_of_pipe part case.now mesh.now (extremes_of mesh.now fold.now) pipe)) }
-    ensures front { OnErr result
-        (AddsFront (K.held out.old) page.old (K.held out.new)
-        (lines_of_pipe part case.now mesh.now (extremes_of mesh.now fold.now) pipe)) }
-    ensures cause { OnErr result (Rose (K.faults out.old) (K.faults out.new)) }
-    ensures later { K.faults out.old ≤ K.faults out.new }
+    requires sized { IsSized run.now.case.now run.now.mesh.now }
+    requires over { IsOver run.now.mesh.now run.now.fold.now }
+    requires pipe { pipe < length run.now.mesh.now.pipes }
+    ensures { IsAdded K.held K.faults result out.old page.old out.new page.new
+        (lines_of_pipe part run.now.case.now run.now.mesh.now
+        (extremes_of run.now.mesh.now run.now.fold.now) pipe) }
 {
-    for i in 0..places_on(mesh, pipe) {
+    for i in 0..places_on(run.mesh, pipe) {
         let place = i as u32;
-        let line = place_line(part, case, mesh, fold, ProbeAt::OnPipe { pipe, place });
+        let line = place_line(part, run, ProbeAt::OnPipe { pipe, place });
         page.add(out, line.as_bytes())?;
     }
     Ok(())
 }
 
 // Adds the line of the peak.
-fn add_peak<K: Sink>(
-    case: &Case,
-    mesh: &Mesh,
-    fold: &Fold,
-    page: &mut Page,
-    out: &mut K,
-) -> Result<(), Failed>
-    requires { IsReportable case.now mesh.now fold.now }
-    ensures all { OnOk result
-        (Adds (K.held out.old) page.old (K.held out.new) page.new
-        (peak_text case.now mesh.now (extremes_of mesh.now fold.now))) }
-    ensures front { OnErr result
-        (AddsFront (K.held out.old) page.old (K.held out.new)
-        (peak_text case.now mesh.now (extremes_of mesh.now fold.now))) }
-    ensures cause { OnErr result (Rose (K.faults out.old) (K.faults out.new)) }
-    ensures later { K.faults out.old ≤ K.faults out.new }
+fn add_peak<K: Sink>(run: &Run, page: &mut Page, out: &mut K) -> Result<(), Failed>
+    requires { IsReportable run.now.case.now run.now.mesh.now run.now.fold.now }
+    ensures { IsAdded K.held K.faults result out.old page.old out.new page.new
+        (peak_text run.now.case.now run.now.mesh.now
+        (extremes_of run.now.mesh.now run.now.fold.now)) }
 {
-    let line = line_of_peak(case, mesh, fold);
+    let line = line_of_peak(run);
     page.add(out, line.as_bytes())
 }
 
-#[tactic(auto, unfolding(crate::specs::Report::peak_text, crate::specs::Peaks::highest, crate::specs::Peaks::lowest))]
-fn line_of_peak(case: &Case, mesh: &Mesh, fold: &Fold) -> Line
-    requires { IsReportable case.now mesh.now fold.now }
-    ensures { result ≡ peak_text case.now mesh.now (extremes_of mesh.now fold.now) }
+// The line of the peak.
+#[tactic(auto, unfolding(crate::specs::Report::peak_text))]
+fn line_of_peak(run: &Run) -> Line
+    requires { IsReportable run.now.case.now run.now.mesh.now run.now.fold.now }
+    ensures { result
+        ≡ peak_text run.now.case.now run.now.mesh.now
+        (extremes_of run.now.mesh.now run.now.fold.now) }
 {
-    let high = peak_place(Bound::Greatest, mesh, fold);
-    let low = peak_place(Bound::Least, mesh, fold);
-    let greatest = extreme_of(mesh, fold, high);
-    let least = extreme_of(mesh, fold, low);
-    peak_line(case, high, &greatest, low, &least)
+    let high = highest(run);
+    let low = lowest(run);
+    let greatest = extreme_of(run.mesh, run.fold, high);
+    let least = extreme_of(run.mesh, run.fold, low);
+    peak_line(run.case, high, &greatest, low, &least)
+}
+
+// The place of a pipe with the greatest head.
+#[tactic(auto, unfolding(crate::specs::Peaks::highest))]
+fn highest(run: &Run) -> ProbeAt
+    requires { IsReportable run.now.case.now run.now.mesh.now run.now.fold.now }
+    ensures place { result
+        ≡ highest_of (extremes_of run.now.mesh.now run.now.fold.now) run.now.mesh.now }
+    ensures there { IsOnPipe run.now.mesh.now result }
+{
+    peak_place(Bound::Greatest, run.mesh, run.fold)
+}
+
+// The place of a pipe with the least head.
+#[tactic(auto, unfolding(crate::specs::Peaks::lowest))]
+fn lowest(run: &Run) -> ProbeAt
+    requires { IsReportable run.now.case.now run.now.mesh.now run.now.fold.now }
+    ensures place { result
+        ≡ lowest_of (extremes_of run.now.mesh.now run.now.fold.now) run.now.mesh.now }
+    ensures there { IsOnPipe run.now.mesh.now result }
+{
+    peak_place(Bound::Least, run.mesh, run.fold)
 }

@@ -11,7 +11,8 @@ use Rattle.case_model.specs.declared.cases.Table.{Table}
 use Rattle.case_model.specs.declared.cases.Node.{Node}
 use Rattle.case_model.specs.declared.cases.Pipe.{Pipe}
 use Rattle.case_model.specs.declared.cases.Probe.{Probe}
-use Rattle.case_writing.specs.CaseText.{line_of, count_text, version_word, friction_word, friction_text, text_in, settings_text, table_text, node_text, pipe_text, probe_text, network_text, case_text}
+use Rattle.surge_io.specs.Fields.{line_of, count_text}
+use Rattle.case_writing.specs.CaseText.{version_word, friction_word, friction_text, text_in, settings_text, table_text, node_text, pipe_text, probe_text, network_text, case_text}
 use Rattle.round_trip.specs.Lines.{settings_lines, friction_lines, table_line, node_line, pipe_line, probe_line, case_lines}
 
 mapped : {X : Type 0} (f : X → List (List ℕ)) (xs : List X) → flat_map line_of (map f xs) ≡ flat_map (λ x. line_of (f x)) xs

@@ -27,7 +27,8 @@ use Rattle.case_lines.specs.Fields.{field, first_quantity, second_quantity, node
 use Rattle.case_lines.specs.Words.{has_directive}
 use Rattle.case_lines.specs.Tables.{rises, falls, may_follow, may_begin, follow, is_ordered, is_disordered}
 use Rattle.case_rules.specs.Said.{version_of, said}
-use Rattle.case_writing.specs.CaseText.{name_of_node, name_of_pipe, count_text, first_places, second_places, entry_fields, kind_fields, pipe_names, pipe_numbers, spot_fields}
+use Rattle.surge_io.specs.Fields.{count_text}
+use Rattle.case_writing.specs.CaseText.{name_of_node, name_of_pipe, first_places, second_places, entry_fields, kind_fields, pipe_names, pipe_numbers, spot_fields}
 use Rattle.round_trip.specs.Lines.{table_line, node_line, pipe_line, probe_line}
 use Rattle.round_trip.specs.Writable.{IsNameText}
 use Rattle.round_trip.proofs.Directives.{kind_word, spot_directive, of_table, of_node, of_pipe, of_probe}

@@ -10,7 +10,8 @@ use Rattle.case_model.specs.declared.cases.ProbeAt.TheVariants.{OnPipe, OnNode}
 use Rattle.case_model.specs.Limits.{IsPipe, IsJoined, IsSpot}
 use Rattle.case_lines.specs.declared.quantities.Quantity.TheVariants.{Length, Diameter, WaveSpeed, FrictionFactor, Flow, PipePlace}
 use Rattle.case_lines.specs.Quantities.{amount}
-use Rattle.case_writing.specs.CaseText.{name_of_node, name_of_pipe, count_text, spot_fields}
+use Rattle.surge_io.specs.Fields.{count_text}
+use Rattle.case_writing.specs.CaseText.{name_of_node, name_of_pipe, spot_fields}
 use Rattle.netfile.specs.Built.{node_index, pipe_index, pipe_of, pipe_said, pipes_from, probe_by, probe_said, probes_from}
 use Rattle.round_trip.specs.Lines.{pipe_line, probe_line}
 use Rattle.round_trip.specs.Renumbered.{pipes_on, probes_on}

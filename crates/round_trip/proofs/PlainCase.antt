@@ -21,7 +21,8 @@ use Rattle.case_model.specs.declared.cases.Pipe.{Pipe}
 use Rattle.case_model.specs.declared.cases.Probe.{Probe}
 use Rattle.case_model.specs.declared.cases.ProbeAt.{ProbeAt}
 use Rattle.case_model.specs.declared.cases.ProbeAt.TheVariants.{OnPipe, OnNode}
-use Rattle.case_writing.specs.CaseText.{count_text, version_word, friction_word, value_text, reference_text, name_of_table, name_of_node, name_of_pipe, table_word, first_places, second_places, entry_fields, node_word, kind_fields, pipe_names, pipe_numbers, spot_fields}
+use Rattle.surge_io.specs.Fields.{count_text}
+use Rattle.case_writing.specs.CaseText.{version_word, friction_word, value_text, reference_text, name_of_table, name_of_node, name_of_pipe, table_word, first_places, second_places, entry_fields, node_word, kind_fields, pipe_names, pipe_numbers, spot_fields}
 use Rattle.round_trip.specs.Lines.{settings_lines, friction_lines, table_line, node_line, pipe_line, probe_line, case_lines}
 use Rattle.round_trip.specs.Plain.{is_plain, IsPlainLine}
 use Rattle.round_trip.specs.Writable.{IsNameText, IsWritable, case_names}

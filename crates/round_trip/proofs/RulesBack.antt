@@ -20,7 +20,8 @@ use Rattle.case_lines.specs.Tables.{is_disordered}
 use Rattle.case_lines.specs.Alone.{breaks_field, breaks_fields, is_readable, breaks_counted, breaks_known, breaks_alone}
 use Rattle.case_rules.specs.Said.{line_at, version_of, said, is_definition, defines, is_single, is_single_of}
 use Rattle.case_rules.specs.Among.{directive_among, is_unknown, uses_unknown, breaks_counted as breaks_others, breaks_among, breaks_line, line_rules}
-use Rattle.case_writing.specs.CaseText.{count_text, version_word, friction_word}
+use Rattle.surge_io.specs.Fields.{count_text}
+use Rattle.case_writing.specs.CaseText.{version_word, friction_word}
 use Rattle.round_trip.specs.Lines.{settings_lines, friction_lines, table_line, node_line, pipe_line, probe_line, case_lines}
 use Rattle.round_trip.specs.Writable.{IsNameText, IsWritable}
 use Rattle.round_trip.proofs.Amounts.{small_between}

@@ -12,7 +12,8 @@ use Rattle.case_model.specs.declared.cases.Pipe.{Pipe}
 use Rattle.case_model.specs.declared.cases.Probe.{Probe}
 use Rattle.case_model.specs.declared.cases.ProbeAt.{ProbeAt}
 use Rattle.case_model.specs.declared.cases.ProbeAt.TheVariants.{OnPipe, OnNode}
-use Rattle.case_writing.specs.CaseText.{name_of_table, name_of_node, name_of_pipe, value_text, kind_fields, spot_fields, line_of, case_text}
+use Rattle.surge_io.specs.Fields.{line_of}
+use Rattle.case_writing.specs.CaseText.{name_of_table, name_of_node, name_of_pipe, value_text, kind_fields, spot_fields, case_text}
 use Rattle.round_trip.specs.Lines.{settings_lines, table_line, node_line, pipe_line, probe_line, case_lines}
 use Rattle.round_trip.specs.Renumbered.{first_part, tables_on, nodes_on, pipes_on, probes_on, renumbered}
 use Rattle.round_trip.proofs.CaseTexts.{text_of_lines}

@@ -8,7 +8,10 @@ use Rattle.case_model.specs.declared.cases.Table.{Table}
 use Rattle.case_model.specs.declared.cases.Node.{Node}
 use Rattle.case_model.specs.declared.cases.Pipe.{Pipe}
 use Rattle.case_model.specs.declared.cases.Probe.{Probe}
-use Rattle.case_writing.specs.CaseText.{count_text, version_word, friction_word, table_word, entry_fields, node_word, kind_fields, pipe_names, pipe_numbers, spot_fields}
+use Rattle.surge_io.specs.Fields.{count_text}
+use Rattle.case_writing.specs.CaseText.{version_word, friction_word, table_word}
+use Rattle.case_writing.specs.CaseText.{entry_fields, node_word, kind_fields, pipe_names}
+use Rattle.case_writing.specs.CaseText.{pipe_numbers, spot_fields}
 
 -- how friction is taken, of which version 1 has no line
 abbrev pub friction_lines : ℕ → Friction → List (List (List ℕ))

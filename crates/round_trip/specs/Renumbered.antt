@@ -23,8 +23,8 @@ abbrev pub probes_on : ℕ → List Probe → List Probe
 probes_on line [] = []
 probes_on line (q ∷ more) = record q { line = line } ∷ probes_on (line + 1) more
 
--- the line of the first part: the heading stands before it, and the settings, of which version 2 has
--- one more than version 1
+-- the line of the first part: the heading stands before it, and the settings, of which version 2
+-- has one more than version 1
 abbrev pub first_part : ℕ → ℕ
 first_part version = if version == 1 then 8 else 9
 
@@ -34,5 +34,8 @@ renumbered case = record case {
   tables = tables_on (first_part case.version) case.tables;
   nodes = nodes_on (first_part case.version + length case.tables) case.nodes;
   pipes = pipes_on (first_part case.version + length case.tables + length case.nodes) case.pipes;
-  probes = probes_on (first_part case.version + length case.tables + length case.nodes + length case.pipes) case.probes;
+  probes =
+      probes_on
+      (first_part case.version + length case.tables + length case.nodes + length case.pipes)
+      case.probes;
 }

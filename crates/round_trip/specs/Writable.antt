@@ -1,5 +1,6 @@
 -- Which cases have a written text that reads back: those that the reader can accept.
-use Rattle.std.specs.Prelude.{ℕ, ◌<◌, ◌≤◌, ◌≡◌, IsTrue, List, [], ◌++◌, map, length, All, slice_index_or}
+use Rattle.std.specs.Prelude.{ℕ, ◌<◌, ◌≤◌, ◌≡◌, IsTrue, List, [], ◌++◌, map, length, All}
+use Rattle.std.specs.Prelude.{slice_index_or}
 use Rattle.case_model.specs.declared.cases.Case.{Case}
 use Rattle.case_model.specs.Limits.{IsRead}
 use Rattle.case_model.specs.Refusals.{passes}
@@ -8,7 +9,8 @@ use Rattle.case_lines.specs.Fields.{is_name}
 
 -- the names of the tables, the nodes and the pipes
 unfoldable pub case_names : Case → List (List ℕ)
-case_names case = map (λ t. t.name) case.tables ++ map (λ n. n.name) case.nodes ++ map (λ p. p.name) case.pipes
+case_names case =
+    map (λ t. t.name) case.tables ++ map (λ n. n.name) case.nodes ++ map (λ p. p.name) case.pipes
 
 -- a name as a case text can give it
 pub record IsNameText (name : List ℕ) : Type 0 where
@@ -17,7 +19,9 @@ pub record IsNameText (name : List ℕ) : Type 0 where
 
 -- no two places of a list have the same text
 abbrev pub AreApart : List (List ℕ) → Type 0
-AreApart names = (i j : ℕ) → i < length names → j < length names → slice_index_or names i [] ≡ slice_index_or names j [] → i ≡ j
+AreApart names =
+    (i j : ℕ) → i < length names → j < length names
+    → slice_index_or names i [] ≡ slice_index_or names j [] → i ≡ j
 
 pub record IsWritable (case : Case) : Type 0 where
   pub read : IsRead case

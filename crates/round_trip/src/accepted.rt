@@ -16,19 +16,25 @@ ghost use Rattle.round_trip.specs.Writable.{IsWritable};
 /// which no pass finds a broken rule, has what a written text must have to be read: numbers and
 /// references within their limits, a pipe, and names well spelt, of which no two are equal.
 pub fn accepted_is_writable()
-    ensures text { (bytes : List ℕ) (case : Case) (mesh : Mesh) → verdict bytes ≡ Ok (case, mesh) → IsWritable case }
-    ensures lines { (lines : List (List (List ℕ))) → IsEmpty (line_rules lines) → IsEmpty (count_rules lines) → AreEmpty (passes (case_of lines)) → IsWritable (case_of lines) }
+    ensures text { (bytes : List ℕ) (case : Case) (mesh : Mesh) → verdict bytes ≡ Ok (case, mesh) →
+        IsWritable case }
+    ensures lines { (lines : List (List (List ℕ))) → IsEmpty (line_rules lines) →
+        IsEmpty (count_rules lines) → AreEmpty (passes (case_of lines)) →
+        IsWritable (case_of lines) }
 {}
 
 /// The law of accepted texts: the case of a text that is accepted, written in at most 8 MiB, is
-/// accepted again and means the same case, its parts on the lines of the new text, and the same mesh.
+/// accepted again and means the same case, its parts on the lines of the new text, and the same
+/// mesh.
 pub fn accepted_text_reads_back()
-    ensures back { (bytes : List ℕ) (case : Case) (mesh : Mesh) → verdict bytes ≡ Ok (case, mesh) → length (case_text case) ≤ 8_388_608 → verdict (case_text case) ≡ Ok (renumbered case, mesh) }
+    ensures back { (bytes : List ℕ) (case : Case) (mesh : Mesh) → verdict bytes ≡ Ok (case, mesh) →
+        length (case_text case) ≤ 8_388_608 →
+        verdict (case_text case) ≡ Ok (renumbered case, mesh) }
 {}
 
 /// The law of upgraded texts: the case of a text that is accepted, written as version 2 in at most
-/// 8 MiB, is accepted and means the same case in that version, its parts on the lines of the new text,
-/// and the same mesh.
+/// 8 MiB, is accepted and means the same case in that version, its parts on the lines of the new
+/// text, and the same mesh.
 pub fn upgraded_text_reads_back()
     ensures writable { (case : Case) → IsWritable case → IsWritable (upgraded case) }
     ensures back { (bytes : List ℕ) (case : Case) (mesh : Mesh) → verdict bytes ≡ Ok (case, mesh) →

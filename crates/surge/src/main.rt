@@ -1,5 +1,5 @@
-//! `surge`: a water hammer analyser for pipe networks. Reads a case text from standard input, writes
-//! the answer to standard output, and exits with the number of the status.
+//! `surge`: a water hammer analyser for pipe networks. Reads a case text from standard input,
+//! writes the answer to standard output, and exits with the number of the status.
 #![tactic(auto)]
 
 ghost use Rattle.std.specs.Prelude.{◌≡◌, ◌⊎◌, ◌≤◌, ◌≢◌, ℕ, List as Items, map, true, false, IfOk};
@@ -49,7 +49,8 @@ fn run<R: AllocGlobal, S: Source, K: Sink>(
         K.held out.new ≡ K.held out.old }
     ensures read_fault { result ≡ Status.ReadFault → Rose (S.faults src.old) (S.faults src.new) }
     ensures write_fault { result ≡ Status.WriteFault → Rose (K.faults out.old) (K.faults out.new) }
-    ensures complete { (Rose (S.faults src.old) (S.faults src.new) ⊎ Rose (K.faults out.old) (K.faults out.new))
+    ensures complete { (Rose (S.faults src.old) (S.faults src.new)
+        ⊎ Rose (K.faults out.old) (K.faults out.new))
         ⊎ ((result ≡ Status.Memory) ⊎ IsAnswered result) }
 {
     match lend(rt.alloc(), words) {

@@ -3,7 +3,7 @@ use Rattle.std.proofs.Common.{◌≡◌, ℕ, ◌+◌, ◌-◌, List, length, ta
 use Rattle.std.proofs.Math.Seq.{take-add}
 use Rattle.std.proofs.lemmas.List.{take_all}
 use Rattle.surge_io.specs.Bytes.{Appends}
-use Rattle.surge_io.specs.ByteLaws.{Appends-append}
+use Rattle.surge_io.proofs.ByteLaws.{Appends-append}
 
 -- the bytes behind the first `done`, as the code borrows them
 pub take-rest : (done : ℕ) (bytes : List ℕ) → take (length bytes - done) (drop done bytes) ≡ drop done bytes

@@ -1,4 +1,6 @@
 pub mod Appending
+pub mod ByteLaws
+pub mod Chains
+pub mod FieldTexts
 pub mod Passing
 pub mod Taking
-pub mod WholeTexts

@@ -1,5 +1,6 @@
 -- What a count of faults tells.
-use Rattle.std.specs.Prelude.{ℕ, ◌+◌, ◌^◌, ◌-◌, ◌<◌, ◌≤◌, ◌⊎◌, ◌==◌, ◌&&◌, nat_lt, min, if◌then◌else◌, List, length, Result, Ok, Err}
+use Rattle.std.specs.Prelude.{ℕ, ◌+◌, ◌^◌, ◌-◌, ◌<◌, ◌≤◌, ◌⊎◌, ◌==◌, ◌&&◌, nat_lt, min}
+use Rattle.std.specs.Prelude.{if◌then◌else◌, List, length, Result, Ok, Err}
 
 -- a count of faults rose from before to now, or stands at the end of its type
 abbrev pub Rose : ℕ → ℕ → Type 0
@@ -14,7 +15,9 @@ abbrev pub faults_after_read : {E : Type 0} → Result ℕ E → ℕ → ℕ
 faults_after_read (Ok _) faults = faults
 faults_after_read (Err _) faults = raised faults
 
--- the count of faults behind a write of bytes: one higher where the write failed, or took none of a nonempty piece
+-- the count of faults behind a write of bytes: one higher where the write failed, or took none of a
+-- nonempty piece
 abbrev pub faults_after_write : {E : Type 0} → Result ℕ E → List ℕ → ℕ → ℕ
-faults_after_write (Ok n) bytes faults = if (n == 0) && nat_lt 0 (length bytes) then raised faults else faults
+faults_after_write (Ok n) bytes faults =
+    if (n == 0) && nat_lt 0 (length bytes) then raised faults else faults
 faults_after_write (Err _) bytes faults = raised faults

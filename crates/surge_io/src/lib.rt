@@ -1,8 +1,9 @@
-//! Bytes in and out of `surge`: sources that give them, sinks that take them, and a count of faults at each.
+//! Bytes in and out of `surge`: sources that give them, sinks that take them, and a count of faults
+//! at each.
 //!
-//! What a source has left and what a sink holds is told where the outside allows it: memory tells its
-//! bytes, and a stream tells none. What was taken from a source is told over each one, by what its
-//! reads gave.
+//! What a source has left and what a sink holds is told where the outside allows it: memory tells
+//! its bytes, and a stream tells none. What was taken from a source is told over each one, by what
+//! its reads gave.
 #![tactic(auto)]
 
 mod line;

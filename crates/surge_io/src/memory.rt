@@ -1,5 +1,7 @@
 //! Sources and a sink over memory, that fail where they are told to.
-ghost use Rattle.std.specs.Prelude.{◌≡◌, ◌↔◌, ℕ, ◌+◌, ◌-◌, ◌<◌, ◌≤◌, min, List, [], ◌++◌, Option, Some, length, take, drop, vec_len, vec_capacity, Contains, IsTrue, IsOk, IsErr, IfOk, IfSome, OnOk, OnErr};
+ghost use Rattle.std.specs.Prelude.{◌≡◌, ◌↔◌, ℕ, ◌+◌, ◌-◌, ◌<◌, ◌≤◌, min, List, [], ◌++◌, Option};
+ghost use Rattle.std.specs.Prelude.{Some, length, take, drop, vec_len, vec_capacity, Contains};
+ghost use Rattle.std.specs.Prelude.{IsTrue, IsOk, IsErr, IfOk, IfSome, OnOk, OnErr};
 ghost use Rattle.surge_io.specs.Bytes.{Appends, Takes};
 ghost use Rattle.surge_io.specs.Faults.{Rose, raised, faults_after_read, faults_after_write};
 ghost use Rattle.surge_io.specs.Memory.{Feed, Store};
@@ -10,7 +12,8 @@ use super::sources::{Failed, Source};
 use std::alloc::{AllocError, Global};
 use std::marker::Model;
 
-/// A source over bytes in memory, which gives them in pieces and fails exactly at the calls that it was told.
+/// A source over bytes in memory, which gives them in pieces and fails exactly at the calls that it
+/// was told.
 #[derive(Drop)]
 pub struct MemorySource {
     bytes: Vec<u8>,
@@ -24,16 +27,30 @@ pub struct MemorySource {
 impl Model for MemorySource {
     ghost Value = { Feed };
 
-    ghost view = { λ s. record { left = drop s.at s.bytes.items; piece = s.piece; failing = s.failing.items; calls = s.calls; faults = s.faults } };
+    ghost view = { λ s. record {
+      left = drop s.at s.bytes.items;
+      piece = s.piece;
+      failing = s.failing.items;
+      calls = s.calls;
+      faults = s.faults;
+    } };
 
     ghost invariant = { λ s. (s.at ≤ vec_len s.bytes) × (1 ≤ s.piece) };
 }
 
 impl MemorySource {
-    /// A source that gives `bytes`, at most `piece` of them in a read, and fails at the calls that `failing` lists, counted from 1.
+    /// A source that gives `bytes`, at most `piece` of them in a read, and fails at the calls that
+    /// `failing` lists, counted from 1.
     pub fn over(bytes: Vec<u8>, piece: usize, failing: Vec<u64>) -> MemorySource
         requires { 1 ≤ piece }
-        ensures { result ≡ record { left = bytes.items; piece = piece; failing = failing.items; calls = 0; faults = 0 } }
+        ensures { result
+            ≡ record {
+              left = bytes.items;
+              piece = piece;
+              failing = failing.items;
+              calls = 0;
+              faults = 0;
+            } }
     {
         MemorySource {
             bytes,
@@ -55,7 +72,8 @@ impl Source for MemorySource {
 
     fn read(&mut self, into: &mut [u8]) -> Result<usize, Failed>
         ensures count { IfOk result (λ n. n ≤ length into.old) }
-        ensures gave { Loses (Some self.old.left) (Some self.new.left) (length into.old) (given result into.new) }
+        ensures gave { Loses (Some self.old.left) (Some self.new.left) (length into.old)
+            (given result into.new) }
         ensures bytes { IfOk result (λ n. Takes n into.new (Some self.new.left) self.old.left) }
         ensures unchanged { OnErr result (self.new.left ≡ self.old.left) }
         ensures cause { OnErr result (Rose self.old.faults self.new.faults) }
@@ -63,7 +81,8 @@ impl Source for MemorySource {
 
         // Beyond every source: which calls fail, and how many bytes the others give.
         ensures fails { IsErr result ↔ Contains self.old.failing (raised self.old.calls) }
-        ensures given { IfOk result (λ n. n ≡ min self.old.piece (min (length into.old) (length self.old.left))) }
+        ensures given { IfOk result
+            (λ n. n ≡ min self.old.piece (min (length into.old) (length self.old.left))) }
         ensures calls { self.new.calls ≡ raised self.old.calls }
         ensures counted { self.new.faults ≡ faults_after_read result self.old.faults }
         ensures piece { self.new.piece ≡ self.old.piece }
@@ -113,7 +132,8 @@ impl Source for SteadySource {
 
     fn read(&mut self, into: &mut [u8]) -> Result<usize, Failed>
         ensures count { IfOk result (λ n. n ≤ length into.old) }
-        ensures gave { Loses (Some self.old) (Some self.new) (length into.old) (given result into.new) }
+        ensures gave { Loses (Some self.old) (Some self.new) (length into.old)
+            (given result into.new) }
         ensures bytes { IfOk result (λ n. Takes n into.new (Some self.new) self.old) }
 
         // Beyond every source: no call fails, and each gives as many bytes as fit.
@@ -126,7 +146,8 @@ impl Source for SteadySource {
     }
 }
 
-/// A sink over memory, whose room is taken at once, and which fails exactly at the calls that it was told.
+/// A sink over memory, whose room is taken at once, and which fails exactly at the calls that it
+/// was told.
 #[derive(Drop)]
 pub struct MemorySink {
     bytes: Vec<u8>,
@@ -139,15 +160,23 @@ pub struct MemorySink {
 impl Model for MemorySink {
     ghost Value = { Store };
 
-    ghost view = { λ s. record { held = s.bytes.items; room = s.room; failing = s.failing.items; calls = s.calls; faults = s.faults } };
+    ghost view = { λ s. record {
+      held = s.bytes.items;
+      room = s.room;
+      failing = s.failing.items;
+      calls = s.calls;
+      faults = s.faults;
+    } };
 
     ghost invariant = { λ s. (vec_len s.bytes ≤ s.room) × (s.room ≤ vec_capacity s.bytes) };
 }
 
 impl MemorySink {
-    /// An empty sink with room for `room` bytes, which fails at the calls that `failing` lists, counted from 1.
+    /// An empty sink with room for `room` bytes, which fails at the calls that `failing` lists,
+    /// counted from 1.
     pub fn make(alloc: Global, room: usize, failing: Vec<u64>) -> Result<MemorySink, AllocError>
-        ensures { IfOk result (λ sink. sink ≡ record { held = []; room = room; failing = failing.items; calls = 0; faults = 0 }) }
+        ensures { IfOk result (λ sink. sink
+            ≡ record { held = []; room = room; failing = failing.items; calls = 0; faults = 0 }) }
     {
         let bytes = Vec::with_capacity(alloc, room)?;
         Ok(MemorySink {
@@ -174,15 +203,18 @@ impl Sink for MemorySink {
 
     fn write(&mut self, bytes: &[u8]) -> Result<usize, Failed>
         ensures count { IfOk result (λ n. n ≤ length bytes.now) }
-        ensures appended { IfOk result (λ n. Appends (Some self.old.held) (Some self.new.held) (take n bytes.now)) }
-        ensures stuck { IfOk result (λ n. n ≡ 0 → 0 < length bytes.now → Rose self.old.faults self.new.faults) }
+        ensures appended { IfOk result
+            (λ n. Appends (Some self.old.held) (Some self.new.held) (take n bytes.now)) }
+        ensures stuck { IfOk result
+            (λ n. n ≡ 0 → 0 < length bytes.now → Rose self.old.faults self.new.faults) }
         ensures unchanged { OnErr result (Some self.new.held ≡ Some self.old.held) }
         ensures cause { OnErr result (Rose self.old.faults self.new.faults) }
         ensures later { self.old.faults ≤ self.new.faults }
 
         // Beyond every sink: which calls fail, and how many bytes the others take.
         ensures fails { IsErr result ↔ Contains self.old.failing (raised self.old.calls) }
-        ensures taken { IfOk result (λ n. n ≡ min (length bytes.now) (self.old.room - length self.old.held)) }
+        ensures taken { IfOk result
+            (λ n. n ≡ min (length bytes.now) (self.old.room - length self.old.held)) }
         ensures calls { self.new.calls ≡ raised self.old.calls }
         ensures counted { self.new.faults ≡ faults_after_write result bytes.now self.old.faults }
         ensures room { self.new.room ≡ self.old.room }
@@ -209,7 +241,8 @@ fn is_listed(failing: &[u64], call: u64) -> bool
     failing.contains(&call)
 }
 
-// Puts a first part of `left`, of at most `most` bytes, into the front of `into`, and answers its length.
+// Puts a first part of `left`, of at most `most` bytes, into the front of `into`, and answers its
+// length.
 fn give(left: &[u8], most: usize, into: &mut [u8]) -> usize
     ensures length { result ≡ min most (min (length into.old) (length left.now)) }
     ensures front { take result into.new ≡ take result left.now }

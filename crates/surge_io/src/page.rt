@@ -1,7 +1,7 @@
 //! Texts of many pieces in few writes.
-ghost use Rattle.std.specs.Prelude.{◌≡◌, ℕ, ◌≤◌, ◌++◌, ◌+◌, List, [], Option, length, take, OnOk, OnErr};
-ghost use Rattle.surge_io.specs.Faults.{Rose};
-ghost use Rattle.surge_io.specs.Pages.{Adds, AddsFront, Finishes, FinishesFront, Passes};
+ghost use Rattle.std.specs.Prelude.{◌≡◌, ℕ, ◌≤◌, ◌++◌, ◌+◌, List, [], Option, length, take, OnErr};
+ghost use Rattle.surge_io.specs.Pages.{Passes};
+ghost use Rattle.surge_io.specs.Writings.{IsAdded, IsFinished};
 
 use super::line::place;
 use super::sinks::Sink;
@@ -12,7 +12,8 @@ use std::marker::Model;
 /// How many bytes a page has.
 const SIZE: usize = 8192;
 
-/// The bytes that wait to be written, which contracts see as their list. What waits is not yet written: `flush` ends a text.
+/// The bytes that wait to be written, which contracts see as their list. What waits is not yet
+/// written: `flush` ends a text.
 #[derive(Drop)]
 pub struct Page {
     bytes: [u8; SIZE],
@@ -40,13 +41,11 @@ impl Page {
     }
 
     /// Adds a piece to the text, and writes what waits where the piece doesn't fit behind it.
-    /// `Failed` comes only where the sink's count of faults rose in this call, and then nothing waits any more.
+    /// `Failed` comes only where the sink's count of faults rose in this call, and then nothing
+    /// waits any more.
     pub fn add<K: Sink>(&mut self, out: &mut K, piece: &[u8]) -> Result<(), Failed>
-        ensures all { OnOk result (Adds (K.held out.old) self.old (K.held out.new) self.new piece.now) }
-        ensures front { OnErr result (AddsFront (K.held out.old) self.old (K.held out.new) piece.now) }
+        ensures added { IsAdded K.held K.faults result out.old self.old out.new self.new piece.now }
         ensures lost { OnErr result (self.new ≡ []) }
-        ensures cause { OnErr result (Rose (K.faults out.old) (K.faults out.new)) }
-        ensures later { K.faults out.old ≤ K.faults out.new }
     {
         if piece.len() <= self.room() {
             self.push(piece);
@@ -61,13 +60,11 @@ impl Page {
     }
 
     /// Writes what waits, so that the text is at an end. After it nothing waits.
-    /// `Failed` comes only where the sink's count of faults rose in this call, and then a first part was written.
+    /// `Failed` comes only where the sink's count of faults rose in this call, and then a first
+    /// part was written.
     pub fn flush<K: Sink>(&mut self, out: &mut K) -> Result<(), Failed>
-        ensures all { OnOk result (Finishes (K.held out.old) self.old (K.held out.new)) }
-        ensures front { OnErr result (FinishesFront (K.held out.old) self.old (K.held out.new)) }
+        ensures finished { IsFinished K.held K.faults result out.old self.old out.new }
         ensures empty { self.new ≡ [] }
-        ensures cause { OnErr result (Rose (K.faults out.old) (K.faults out.new)) }
-        ensures later { K.faults out.old ≤ K.faults out.new }
     {
         let written = put(out, &self.bytes[..self.used]);
         self.used = 0;
@@ -83,11 +80,10 @@ impl Page {
 
     // Lets a piece wait that fits.
     fn push(&mut self, piece: &[u8])
-        requires { length self.old + length piece.now ≤ 8192 }
-        ensures { self.new ≡ self.old ++ piece.now }
+        requires fits { length self.old + length piece.now ≤ 8192 }
+        ensures waits { self.new ≡ self.old ++ piece.now }
     {
-        place(&mut self.bytes, self.used, piece);
-        self.used += piece.len();
+        self.used = place(&mut self.bytes, self.used, piece);
     }
 }
 

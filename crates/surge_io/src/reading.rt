@@ -21,10 +21,10 @@ pub enum ReadFault {
 /// How many bytes one read asks for at most.
 const PIECE: usize = 4096;
 
-/// Reads `src` to its end, and no further than `limit` + 1 bytes: more than `limit` bytes say that the
-/// input is too long. The bytes are those that were taken from the source, and it gave no others.
-/// `Failed` comes only where the source's count of faults rose in this call, and `Memory` for want of
-/// memory; then too no more than `limit` + 1 bytes were taken.
+/// Reads `src` to its end, and no further than `limit` + 1 bytes: more than `limit` bytes say that
+/// the input is too long. The bytes are those that were taken from the source, and it gave no
+/// others. `Failed` comes only where the source's count of faults rose in this call, and `Memory`
+/// for want of memory; then too no more than `limit` + 1 bytes were taken.
 pub fn whole<S: Source>(alloc: Global, src: &mut S, limit: usize) -> Result<Vec<u8>, ReadFault>
     requires { limit ≤ 16_777_216 }
     ensures taken { IfOk result (λ v. WasRead S.gives limit src.old v.items src.new) }
@@ -32,10 +32,12 @@ pub fn whole<S: Source>(alloc: Global, src: &mut S, limit: usize) -> Result<Vec<
     ensures rest { IfOk result (λ v. HasRead (S.left src.old) (S.left src.new) v.items) }
 
     // Where reading was given up.
-    ensures starved { IsErrOf result ReadFault.Memory → (taken : List ℕ) × (length taken ≤ limit + 1)
+    ensures starved { IsErrOf result ReadFault.Memory → (taken : List ℕ)
+        × (length taken ≤ limit + 1)
         × HasTaken S.gives src.old taken src.new × HasRead (S.left src.old) (S.left src.new) taken }
     ensures failed { IsErrOf result ReadFault.Failed → (taken : List ℕ) × (length taken ≤ limit)
-        × HasFailed S.gives src.old taken src.new × HasRead (S.left src.old) (S.left src.new) taken }
+        × HasFailed S.gives src.old taken src.new
+        × HasRead (S.left src.old) (S.left src.new) taken }
     ensures cause { IsErrOf result ReadFault.Failed → Rose (S.faults src.old) (S.faults src.new) }
     ensures later { S.faults src.old ≤ S.faults src.new }
 {

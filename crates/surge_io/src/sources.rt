@@ -16,17 +16,20 @@ pub struct Failed;
 pub trait Source {
     ghost left: { Self → Option (List ℕ) };
 
-    // A read with room for so many bytes took the one state to the other, and gave these bytes or failed.
+    // A read with room for so many bytes took the one state to the other, and gave these bytes or
+    // failed.
     ghost gives: { Self → ℕ → Option (List ℕ) → Self → Type 0 };
 
     ghost faults: { Self → ℕ };
 
-    /// Puts the next bytes into the front of `into` and answers how many; 0 for an `into` with room is the end.
-    /// `Failed` comes only where the count of faults rose in this call, and then no byte was taken.
+    /// Puts the next bytes into the front of `into` and answers how many; 0 for an `into` with room
+    /// is the end. `Failed` comes only where the count of faults rose in this call, and then no
+    /// byte was taken.
     fn read(&mut self, into: &mut [u8]) -> Result<usize, Failed>
         ensures count { IfOk result (λ n. n ≤ length into.old) }
         ensures gave { gives self.old (length into.old) (given result into.new) self.new }
-        ensures bytes { IfOk result (λ n. IfSome (left self.old) (Takes n into.new (left self.new))) }
+        ensures bytes { IfOk result
+            (λ n. IfSome (left self.old) (Takes n into.new (left self.new))) }
         ensures unchanged { OnErr result (left self.new ≡ left self.old) }
         ensures cause { OnErr result (Rose (faults self.old) (faults self.new)) }
         ensures later { faults self.old ≤ faults self.new };

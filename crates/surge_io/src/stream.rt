@@ -1,4 +1,5 @@
-//! Sources and sinks over the streams of std: the edge to the outside, whose bytes nothing here tells.
+//! Sources and sinks over the streams of std: the edge to the outside, whose bytes nothing here
+//! tells.
 ghost use Rattle.std.specs.Io.KnownBytes.{ReadConsumes, WriteAppends};
 ghost use Rattle.std.specs.Prelude.{◌≡◌, ◌<◌, ◌≤◌, None, length, IfOk, OnErr};
 ghost use Rattle.surge_io.specs.Faults.{Rose, faults_after_read, faults_after_write};
@@ -29,18 +30,21 @@ impl<R: Read> StreamSource<R> {
 impl<R: Read> Source for StreamSource<R> {
     ghost left = { λ _. None };
 
-    ghost gives = { λ s room bytes t. Loses (R.remaining (reader_of s)) (R.remaining (reader_of t)) room bytes };
+    ghost gives = { λ s room bytes t. Loses (R.remaining (reader_of s))
+        (R.remaining (reader_of t)) room bytes };
 
     ghost faults = { λ s. read_faults s };
 
     fn read(&mut self, into: &mut [u8]) -> Result<usize, Failed>
         ensures count { IfOk result (λ n. n ≤ length into.old) }
-        ensures gave { Loses (R.remaining (reader_of self.old)) (R.remaining (reader_of self.new)) (length into.old) (given result into.new) }
+        ensures gave { Loses (R.remaining (reader_of self.old)) (R.remaining (reader_of self.new))
+            (length into.old) (given result into.new) }
         ensures cause { OnErr result (Rose (read_faults self.old) (read_faults self.new)) }
         ensures later { read_faults self.old ≤ read_faults self.new }
 
         // Beyond every source: what the reader tells of its own bytes, and when the count rises.
-        ensures passed { ReadConsumes (R.remaining (reader_of self.old)) (R.remaining (reader_of self.new)) result into.new }
+        ensures passed { ReadConsumes (R.remaining (reader_of self.old))
+            (R.remaining (reader_of self.new)) result into.new }
         ensures counted { read_faults self.new ≡ faults_after_read result (read_faults self.old) }
     {
         match self.reader.read(into) {
@@ -53,7 +57,8 @@ impl<R: Read> Source for StreamSource<R> {
     }
 }
 
-/// A sink over a writer. It tells no bytes, and counts each write that the writer fails, or that takes none of a nonempty piece.
+/// A sink over a writer. It tells no bytes, and counts each write that the writer fails, or that
+/// takes none of a nonempty piece.
 #[derive(Drop)]
 pub struct StreamSink<W: Write> {
     writer: W,
@@ -77,13 +82,17 @@ impl<W: Write> Sink for StreamSink<W> {
 
     fn write(&mut self, bytes: &[u8]) -> Result<usize, Failed>
         ensures count { IfOk result (λ n. n ≤ length bytes.now) }
-        ensures stuck { IfOk result (λ n. n ≡ 0 → 0 < length bytes.now → Rose (write_faults self.old) (write_faults self.new)) }
+        ensures stuck { IfOk result
+            (λ n. n ≡ 0 → 0 < length bytes.now →
+            Rose (write_faults self.old) (write_faults self.new)) }
         ensures cause { OnErr result (Rose (write_faults self.old) (write_faults self.new)) }
         ensures later { write_faults self.old ≤ write_faults self.new }
 
         // Beyond every sink: what the writer tells of its own bytes, and when the count rises.
-        ensures passed { WriteAppends (W.contents (writer_of self.old)) (W.contents (writer_of self.new)) result bytes.now }
-        ensures counted { write_faults self.new ≡ faults_after_write result bytes.now (write_faults self.old) }
+        ensures passed { WriteAppends (W.contents (writer_of self.old))
+            (W.contents (writer_of self.new)) result bytes.now }
+        ensures counted { write_faults self.new
+            ≡ faults_after_write result bytes.now (write_faults self.old) }
     {
         match self.writer.write(bytes) {
             Ok(0) if !bytes.is_empty() => {

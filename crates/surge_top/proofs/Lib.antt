@@ -1,3 +1,3 @@
 pub mod Answering
-pub mod Fitting
+pub mod Ending
 pub mod Reporting

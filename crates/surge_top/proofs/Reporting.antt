@@ -1,7 +1,6 @@
 -- What a fold keeps of the rows of an accepted case is what the definitions say of them.
-use Rattle.std.proofs.Common.{◌≡◌, ◌∙◌, ℕ, ◌+◌, ◌%◌, ◌<◌, ◌≤◌, List, [], ◌∷◌, length, get_or, Option, None, Result, Ok, Err, ap, sym, subst, refl, arith}
+use Rattle.std.proofs.Common.{◌≡◌, ◌∙◌, ℕ, ◌+◌, ◌%◌, ◌<◌, ◌≤◌, List, [], ◌∷◌, length, get_or, Option, None, ap, sym, subst, refl, arith}
 use Rattle.std.specs.List.{All}
-use Rattle.std.specs.Prelude.{MatchResult, OnErr}
 use Rattle.std.proofs.lemmas.List.{get_or-map, length-map}
 use Rattle.case_model.specs.declared.cases.Case.{Case}
 use Rattle.case_model.specs.declared.cases.Probe.{Probe}
@@ -24,10 +23,7 @@ use Rattle.envelope.specs.declared.extremes.Extreme.{Extreme}
 use Rattle.envelope.specs.declared.folds.Fold.{Fold}
 use Rattle.case_model.specs.Accepted.{IsAccepted}
 use Rattle.report.specs.Report.{report_text}
-use Rattle.report.specs.Reportable.{IsReportable}
-use Rattle.surge_top.specs.Sizes.{IsSmall}
-use Rattle.surge_top.specs.declared.status.Status.{Status}
-use Rattle.surge_top.specs.declared.status.Status.TheVariants.{WriteFault}
+use Rattle.report.specs.Sizes.{IsSmall}
 
 -- ---- the fold that is made
 
@@ -47,25 +43,7 @@ probes_within case mesh numbers below n on e = λ p h.
     let at = ap (λ ks. get_or ks p 0) e ∙ get_or-map (λ (probe : Probe). number_of mesh probe.at) case.probes p no_probe 0 l in
     within-first ((0, mesh.places) ∷ []) mesh.places (get_or numbers p 0) refl (subst (λ k. k < mesh.places) (sym at) (below mesh (probe_at case p).at n (on p no_probe l)))
 
-pub few_numbers : (case : Case) (mesh : Mesh) (numbers : List ℕ) → numbers ≡ probe_numbers mesh case → length numbers ≡ length case.probes
-few_numbers case mesh numbers e = ap length e ∙ length-map case.probes (λ (probe : Probe). number_of mesh probe.at)
-
 -- ---- the report
-
-pub reportable : (case : Case) (mesh : Mesh) (fold : Fold) → IsAccepted case mesh → IsSmall case mesh → All (λ probe. IsOn mesh probe.at) case.probes
-    → IsFoldOf ((0, mesh.places) ∷ []) (probe_numbers mesh case) case.steps case.every fold → IsReportable case mesh fold
-reportable case mesh fold a small on given = record {
-  sized = record { same_nodes = small.same_nodes; same_pipes = small.same_pipes; few_nodes = a.read.few_nodes; few_pipes = a.read.few_pipes };
-  some_pipes = a.some;
-  over = record { numbered = a.numbered; few_places = small.numbers; whole = λ k h. within-first (spans_of fold) mesh.places k given.spans_are h };
-  same_probes = few_numbers case mesh fold.probes.items given.probes_are;
-  same_steps = given.steps_are;
-  same_every = given.every_is;
-  probes_on = on;
-  few_probes = small.probes;
-  some_every = a.read.some_every;
-  few_steps = small.steps;
-}
 
 -- the laws of folds over rows, and of a report's numbers
 abbrev pub ExtremeLaw : Type 0
@@ -111,8 +89,3 @@ given_still spans probes steps every old new p q = record {
 -- the first fault, of a law and a step that are known by other names
 pub fault_here : (law other : Meaning) (n last : ℕ) (o : Option (ℕ × ℕ)) → o ≡ first_fault law n → law ≡ other → n ≡ last → first_fault other last ≡ o
 fault_here law other n last o h e k = sym (h ∙ ap (λ m. first_fault m n) e ∙ ap (λ s. first_fault other s) k)
-
--- what is so of a text that failed is so where the status is a write fault
-pub front_of : {A B : Type 0} (written : Result A B) (status ending : Status) (P : Type 0) → MatchResult written (λ u. status ≡ ending) (λ e. status ≡ WriteFault) → (ending ≡ WriteFault → ⊥) → OnErr written P → status ≡ WriteFault → P
-front_of (Ok u) status ending P m n h w = absurd (n (sym m ∙ w))
-front_of (Err e) status ending P m n h w = h

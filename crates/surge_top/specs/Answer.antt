@@ -1,5 +1,6 @@
 -- The answer: what the program prints for its words and its input, and the number of its status.
-use Rattle.std.specs.Prelude.{◌≡◌, ℕ, Bool, true, false, Option, Some, None, Result, Ok, Err, if◌then◌else◌, List}
+use Rattle.std.specs.Prelude.{◌≡◌, ℕ, Bool, true, false, Option, Some, None, Result, Ok, Err}
+use Rattle.std.specs.Prelude.{if◌then◌else◌, List}
 use Rattle.case_model.specs.declared.cases.Case.{Case}
 use Rattle.case_model.specs.declared.meshes.Mesh.{Mesh}
 use Rattle.case_model.specs.Parts.{probe_at}
@@ -8,7 +9,8 @@ use Rattle.case_model.specs.FirstFault.{first_fault}
 use Rattle.case_model.specs.Search.{Refusal}
 use Rattle.command_words.specs.declared.job.Command.{Command}
 use Rattle.case_writing.specs.CaseText.{case_text, upgraded}
-use Rattle.command_words.specs.declared.job.Command.TheVariants.{Check, Mesh as MeshCommand, Rounds, Run, Drill, Upgrade}
+use Rattle.command_words.specs.declared.job.Command.TheVariants.{Check, Mesh as MeshCommand, Rounds}
+use Rattle.command_words.specs.declared.job.Command.TheVariants.{Run, Drill, Upgrade}
 use Rattle.command_words.specs.declared.job.Job.{Job}
 use Rattle.command_words.specs.CommandLine.{job_of}
 use Rattle.envelope.specs.Rows.{extreme_at}
@@ -91,6 +93,7 @@ unfoldable pub answer : List (List ℕ) → List ℕ → Answer
 answer words bytes = answer_job (job_of words) bytes
 
 -- the words name this job, and the text is accepted and means this case and this mesh
-pub record Says (words : List (List ℕ)) (bytes : List ℕ) (job : Job) (case : Case) (mesh : Mesh) : Type 0 where
+pub record Says (words : List (List ℕ)) (bytes : List ℕ) (job : Job) (case : Case)
+    (mesh : Mesh) : Type 0 where
   pub named : job_of words ≡ Some job
   pub meant : verdict bytes ≡ Ok (case, mesh)

@@ -1,4 +1,3 @@
 pub mod Answer
 pub mod Outcome
-pub mod Sizes
 pub mod Status

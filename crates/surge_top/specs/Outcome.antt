@@ -1,12 +1,13 @@
 -- What a call of the top leaves behind: what it took of its source, and what it told its sink.
-use Rattle.std.specs.Prelude.{◌≡◌, ℕ, ◌+◌, ◌≤◌, ◌⊎◌, List, length, Option, IfSome}
+use Rattle.std.specs.Prelude.{◌≡◌, ◌≢◌, ℕ, ◌+◌, ◌≤◌, ◌⊎◌, List, length, Option, IfSome}
 use Rattle.surge_io.specs.Bytes.{Appends, AppendsFront, HasRead, IsReading}
+use Rattle.surge_io.specs.Faults.{Rose}
 use Rattle.surge_io.specs.Readings.{HasFailed, HasTaken, HasTakenAll, WasRead}
 use Rattle.netfile.specs.declared.reading.TheConstants.{MOST_BYTES}
 use Rattle.surge_top.specs.Answer.{Answer}
 use Rattle.surge_top.specs.Status.{IsAnswered, number_of}
 use Rattle.surge_top.specs.declared.status.Status.{Status}
-use Rattle.surge_top.specs.declared.status.Status.TheVariants.{WriteFault}
+use Rattle.surge_top.specs.declared.status.Status.TheVariants.{ReadFault, WriteFault, Memory}
 
 -- what was appended is the text of this answer and the exit number its status; with a write fault a
 -- first part of the text was appended
@@ -14,6 +15,17 @@ pub record Tells (status : Status) (before now : Option (List ℕ)) (answer : An
   pub text : IsAnswered status → Appends before now answer.text
   pub number : IsAnswered status → number_of status ≡ answer.status
   pub front : status ≡ WriteFault → AppendsFront before now answer.text
+
+-- a call that has no source of its own ended with this status: it told its sink the answer or a
+-- first part of it; with want of memory it wrote nothing; and a write fault comes only where the
+-- sink's count of faults rose
+pub record HasAnswered {K : Type 0} (held : K → Option (List ℕ)) (faults : K → ℕ) (status : Status)
+    (before now : K) (answer : Answer) : Type 0 where
+  pub tells : Tells status (held before) (held now) answer
+  pub unwritten : status ≡ Memory → held now ≡ held before
+  pub read : status ≢ ReadFault
+  pub cause : status ≡ WriteFault → Rose (faults before) (faults now)
+  pub later : faults before ≤ faults now
 
 -- these bytes were taken from the source and no other: all up to its end, or one past the limit;
 -- where the source tells what it has left, they are the first of that

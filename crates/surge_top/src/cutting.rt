@@ -1,10 +1,8 @@
 //! What `mesh` does with an accepted case: it cuts the mesh into strands and regions.
-ghost use Rattle.std.specs.Prelude.{◌≡◌, ◌≤◌, ◌≢◌};
+ghost use Rattle.std.specs.Prelude.{◌≤◌};
 ghost use Rattle.case_model.specs.Accepted.{IsAccepted};
-ghost use Rattle.surge_io.specs.Bytes.{Appends, AppendsFront};
-ghost use Rattle.surge_io.specs.Faults.{Rose};
 ghost use Rattle.surge_top.specs.Answer.{cut as cut_of};
-ghost use Rattle.surge_top.specs.Status.{number_of, IsAnswered};
+ghost use Rattle.surge_top.specs.Outcome.{HasAnswered};
 
 use crate::status::Status;
 use crate::top::ended;
@@ -25,15 +23,7 @@ pub(crate) fn cut<K: Sink>(
     requires accepted { IsAccepted case.now mesh.now }
     requires some { 1 ≤ wish }
     requires few { wish ≤ WIDEST_WINDOW }
-    ensures answer { let told = cut_of case.now mesh.now wish in
-        IsAnswered result →
-        Appends (K.held out.old) (K.held out.new) told.text × (number_of result ≡ told.status) }
-    ensures front { let told = cut_of case.now mesh.now wish in
-        result ≡ Status.WriteFault → AppendsFront (K.held out.old) (K.held out.new) told.text }
-    ensures unwritten { result ≡ Status.Memory → K.held out.new ≡ K.held out.old }
-    ensures read { result ≢ Status.ReadFault }
-    ensures cause { result ≡ Status.WriteFault → Rose (K.faults out.old) (K.faults out.new) }
-    ensures later { K.faults out.old ≤ K.faults out.new }
+    ensures { HasAnswered K.held K.faults result out.old out.new (cut_of case.now mesh.now wish) }
 {
     match layout(alloc, case, mesh, wish) {
         Ok(layout) => ended(write_mesh(case, mesh, &layout, out), Status::Done),

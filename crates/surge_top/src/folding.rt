@@ -1,5 +1,6 @@
-//! The fold of a run, which keeps what its report tells, and the report of the rows that it was told.
-ghost use Rattle.std.specs.Prelude.{◌≡◌, ◌≤◌, [], ◌∷◌, IfOk, OnOk, OnErr, None};
+//! The fold of a run, which keeps what its report tells, and the report of the rows that it was
+//! told.
+ghost use Rattle.std.specs.Prelude.{◌≡◌, ◌≤◌, [], ◌∷◌, IfOk, None};
 ghost use Rattle.std.specs.List.{All};
 ghost use Rattle.case_model.specs.Accepted.{IsAccepted};
 ghost use Rattle.case_model.specs.FirstFault.{first_fault};
@@ -10,19 +11,17 @@ ghost use Rattle.envelope.specs.Notings.{nothing};
 ghost use Rattle.envelope.specs.RowFolds.{probe_numbers as numbers_of};
 ghost use Rattle.envelope.specs.Rows.{rows_noted};
 ghost use Rattle.scheme.specs.Laws.{meaning_of};
-ghost use Rattle.surge_io.specs.Bytes.{Appends, AppendsFront};
-ghost use Rattle.surge_io.specs.Faults.{Rose};
+ghost use Rattle.surge_io.specs.Writings.{IsWritten};
 ghost use Rattle.surge_top.specs.Answer.{rows_text};
 
-use crate::computing::sizes;
 use case_model::{Case, Mesh, place_number};
 use envelope::{Fold, folds_tell_rows, numbers_tell_places};
-use report::{report_is_of_its_numbers, write_report};
+use report::{report_is_of_its_numbers, sizes, write_report};
 use std::alloc::{AllocError, Global};
 use surge_io::{Failed, Sink};
 
-/// A fold over all places of an accepted case, with its probes, of which nothing is noted. The error is
-/// want of memory.
+/// A fold over all places of an accepted case, with its probes, of which nothing is noted. The
+/// error is want of memory.
 pub(crate) fn fold_over(alloc: Global, case: &Case, mesh: &Mesh) -> Result<Fold, AllocError>
     requires accepted { IsAccepted case.now mesh.now }
     ensures given { let probes = numbers_of mesh.now case.now in IfOk result (λ fold.
@@ -62,12 +61,7 @@ pub(crate) fn write_rows<K: Sink>(
         IsFoldOf ((0, mesh.now.places) ∷ []) probes case.now.steps case.now.every fold.now }
     requires told { Stands fold.now (rows_noted (meaning_of case.now mesh.now)) }
     requires clear { first_fault (meaning_of case.now mesh.now) case.now.steps ≡ None }
-    ensures all { let text = rows_text case.now mesh.now in
-        OnOk result (Appends (K.held out.old) (K.held out.new) text) }
-    ensures front { let text = rows_text case.now mesh.now in
-        OnErr result (AppendsFront (K.held out.old) (K.held out.new) text) }
-    ensures cause { OnErr result (Rose (K.faults out.old) (K.faults out.new)) }
-    ensures later { K.faults out.old ≤ K.faults out.new }
+    ensures { IsWritten K.held K.faults result out.old out.new (rows_text case.now mesh.now) }
 {
     sizes(case, mesh);
     folds_tell_rows();

@@ -15,30 +15,35 @@ ghost use Rattle.scheme.specs.Laws.{meaning_of};
 ghost use Rattle.surge_top.specs.Answer.{Says, answer, are_read, usage};
 
 /// The law of the answer's status: 2 for refused words and for those of a command that is not built
-/// yet, which have the usage line; 1 for a refused text; 3 for `rounds` where a place of the accepted
-/// case is Bad up to the last step; and 0 else.
+/// yet, which have the usage line; 1 for a refused text; 3 for `rounds` where a place of the
+/// accepted case is Bad up to the last step; and 0 else.
 pub fn statuses_have_their_causes()
     ensures words { (words : List (List ℕ)) (bytes : List ℕ) →
         are_read words ≡ false → answer words bytes ≡ usage }
     ensures refused { (words : List (List ℕ)) (bytes : List ℕ) (r : Refusal) →
         are_read words ≡ true → verdict bytes ≡ Err r → (answer words bytes).status ≡ 1 }
-    ensures checked { (words : List (List ℕ)) (bytes : List ℕ) (job : Job) (case : Case) (mesh : Mesh) →
+    ensures checked { (words : List (List ℕ)) (bytes : List ℕ) (job : Job) (case : Case)
+        (mesh : Mesh) →
         Says words bytes job case mesh → job.command ≡ Check → (answer words bytes).status ≡ 0 }
     ensures cut { (words : List (List ℕ)) (bytes : List ℕ) (job : Job) (case : Case) (mesh : Mesh) →
-        Says words bytes job case mesh → job.command ≡ MeshCommand → (answer words bytes).status ≡ 0 }
+        Says words bytes job case mesh → job.command ≡ MeshCommand →
+        (answer words bytes).status ≡ 0 }
     ensures range { (words : List (List ℕ)) (bytes : List ℕ) (job : Job) (case : Case) (mesh : Mesh)
         (fault : ℕ × ℕ) → Says words bytes job case mesh → job.command ≡ Rounds →
-        first_fault (meaning_of case mesh) case.steps ≡ Some fault → (answer words bytes).status ≡ 3 }
-    ensures done { (words : List (List ℕ)) (bytes : List ℕ) (job : Job) (case : Case) (mesh : Mesh) →
+        first_fault (meaning_of case mesh) case.steps ≡ Some fault →
+        (answer words bytes).status ≡ 3 }
+    ensures done { (words : List (List ℕ)) (bytes : List ℕ) (job : Job) (case : Case)
+        (mesh : Mesh) →
         Says words bytes job case mesh → job.command ≡ Rounds →
         first_fault (meaning_of case mesh) case.steps ≡ None → (answer words bytes).status ≡ 0 }
-    ensures upgraded { (words : List (List ℕ)) (bytes : List ℕ) (job : Job) (case : Case) (mesh : Mesh) →
+    ensures upgraded { (words : List (List ℕ)) (bytes : List ℕ) (job : Job) (case : Case)
+        (mesh : Mesh) →
         Says words bytes job case mesh → job.command ≡ Upgrade → (answer words bytes).status ≡ 0 }
 {}
 
 /// The law of options: jobs of one command and number have one answer, whatever workers, slots and
-/// windows they name; only `mesh` prints the scheme of its window, and its answer is the same for all
-/// windows with one scheme.
+/// windows they name; only `mesh` prints the scheme of its window, and its answer is the same for
+/// all windows with one scheme.
 pub fn answers_are_of_their_commands()
     ensures options { (words others : List (List ℕ)) (bytes : List ℕ) (job other : Job) →
         job_of words ≡ Some job → job_of others ≡ Some other →

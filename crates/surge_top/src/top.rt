@@ -4,12 +4,11 @@ ghost use Rattle.std.specs.Prelude.{IfSome, MatchResult};
 ghost use Rattle.case_model.specs.Accepted.{IsAccepted};
 ghost use Rattle.command_words.specs.CommandLine.{IsJob};
 ghost use Rattle.netfile.specs.Verdict.{verdict};
-ghost use Rattle.surge_io.specs.Bytes.{Appends, AppendsFront};
 ghost use Rattle.surge_io.specs.Faults.{Rose};
 ghost use Rattle.surge_top.specs.Answer.{answer, answer_to, answer_case as answer_of, are_read};
 ghost use Rattle.surge_top.specs.Answer.{reads, usage};
-ghost use Rattle.surge_top.specs.Outcome.{IsFront, IsInput, Tells};
-ghost use Rattle.surge_top.specs.Status.{number_of, IsAnswered};
+ghost use Rattle.surge_top.specs.Outcome.{HasAnswered, IsFront, IsInput, Tells};
+ghost use Rattle.surge_top.specs.Status.{IsAnswered};
 
 use crate::computing::rounds;
 use crate::cutting::cut;
@@ -26,9 +25,9 @@ use surge_io::{Failed, ReadFault, Sink, Source, whole};
 /// answer to the sink.
 ///
 /// The answer is that of the definitions for these words and for the bytes that were taken from the
-/// source, whatever the source and the sink are and do: all bytes up to the source's end, or one past
-/// the limit. A read fault comes only where the source's count of faults rose, a write fault only
-/// where the sink's did; want of memory is free, and comes before the first byte is written.
+/// source, whatever the source and the sink are and do: all bytes up to the source's end, or one
+/// past the limit. A read fault comes only where the source's count of faults rose, a write fault
+/// only where the sink's did; want of memory is free, and comes before the first byte is written.
 pub fn surge_plain<R: AllocGlobal, S: Source, K: Sink>(
     rt: &R,
     words: &[&str],
@@ -50,7 +49,8 @@ pub fn surge_plain<R: AllocGlobal, S: Source, K: Sink>(
 
     // Where the source tells what it has left, the answer is that to all of it.
     ensures known { let texts = map (λ w. w.now) words.now in
-        IfSome (S.left src.old) (λ bytes. Tells result (K.held out.old) (K.held out.new) (answer texts bytes)) }
+        IfSome (S.left src.old) (λ bytes. Tells result (K.held out.old) (K.held out.new)
+        (answer texts bytes)) }
 
     // A read fault and want of memory: nothing is written, and no more is taken than for an answer.
     ensures unwritten { (result ≡ Status.ReadFault) ⊎ (result ≡ Status.Memory) →
@@ -62,7 +62,8 @@ pub fn surge_plain<R: AllocGlobal, S: Source, K: Sink>(
     ensures write_fault { result ≡ Status.WriteFault → Rose (K.faults out.old) (K.faults out.new) }
     ensures read_later { S.faults src.old ≤ S.faults src.new }
     ensures write_later { K.faults out.old ≤ K.faults out.new }
-    ensures complete { (Rose (S.faults src.old) (S.faults src.new) ⊎ Rose (K.faults out.old) (K.faults out.new))
+    ensures complete { (Rose (S.faults src.old) (S.faults src.new)
+        ⊎ Rose (K.faults out.old) (K.faults out.new))
         ⊎ ((result ≡ Status.Memory) ⊎ IsAnswered result) }
 {
     match read_words(rt.alloc(), words) {
@@ -119,15 +120,8 @@ pub(crate) fn ended(written: Result<(), Failed>, done: Status) -> Status
 // Writes the answer of a job to a text of any length.
 fn answer_text<K: Sink>(alloc: Global, job: Job, bytes: &[u8], out: &mut K) -> Status
     requires { IsJob job }
-    ensures answer { let told = answer_to job (verdict bytes.now) in
-        IsAnswered result →
-        Appends (K.held out.old) (K.held out.new) told.text × (number_of result ≡ told.status) }
-    ensures front { let told = answer_to job (verdict bytes.now) in
-        result ≡ Status.WriteFault → AppendsFront (K.held out.old) (K.held out.new) told.text }
-    ensures unwritten { result ≡ Status.Memory → K.held out.new ≡ K.held out.old }
-    ensures read { result ≢ Status.ReadFault }
-    ensures cause { result ≡ Status.WriteFault → Rose (K.faults out.old) (K.faults out.new) }
-    ensures later { K.faults out.old ≤ K.faults out.new }
+    ensures { HasAnswered K.held K.faults result out.old out.new
+        (answer_to job (verdict bytes.now)) }
 {
     match read_case(alloc, bytes) {
         Ok((case, mesh)) => answer_case(alloc, job, &case, &mesh, out),
@@ -143,15 +137,7 @@ fn answer_text<K: Sink>(alloc: Global, job: Job, bytes: &[u8], out: &mut K) -> S
 fn answer_case<K: Sink>(alloc: Global, job: Job, case: &Case, mesh: &Mesh, out: &mut K) -> Status
     requires job { IsJob job }
     requires accepted { IsAccepted case.now mesh.now }
-    ensures answer { let told = answer_of job case.now mesh.now in
-        IsAnswered result →
-        Appends (K.held out.old) (K.held out.new) told.text × (number_of result ≡ told.status) }
-    ensures front { let told = answer_of job case.now mesh.now in
-        result ≡ Status.WriteFault → AppendsFront (K.held out.old) (K.held out.new) told.text }
-    ensures unwritten { result ≡ Status.Memory → K.held out.new ≡ K.held out.old }
-    ensures read { result ≢ Status.ReadFault }
-    ensures cause { result ≡ Status.WriteFault → Rose (K.faults out.old) (K.faults out.new) }
-    ensures later { K.faults out.old ≤ K.faults out.new }
+    ensures { HasAnswered K.held K.faults result out.old out.new (answer_of job case.now mesh.now) }
 {
     match job.command {
         Command::Check => ended(write_accepted(out), Status::Done),

@@ -12,8 +12,8 @@ ghost use Rattle.report.specs.Report.{report_text};
 ghost use Rattle.round_trip.specs.Renumbered.{renumbered};
 ghost use Rattle.scheme.specs.Laws.{meaning_of};
 
-/// The law of upgraded cases: a case as version 2, with its parts on the lines of its text, means the
-/// same hydraulics, and the lines that are printed of it are the same.
+/// The law of upgraded cases: a case as version 2, with its parts on the lines of its text, means
+/// the same hydraulics, and the lines that are printed of it are the same.
 pub fn upgraded_case_is_alike()
     ensures meaning { (case : Case) (mesh : Mesh) →
         meaning_of (renumbered (upgraded case)) mesh ≡ meaning_of case mesh }

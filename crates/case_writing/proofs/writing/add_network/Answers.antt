@@ -1,40 +1,27 @@
-use Rattle.std.proofs.Common.{rules, refl}
+use Rattle.std.proofs.Common.{◌++◌, refl, sym, append_assoc}
 use Rattle.std.specs.List.{flat_map}
-use Rattle.std.proofs.lemmas.Result.{IfOk-weaker, IfErr-weaker}
+use Rattle.surge_io.proofs.Chains.{has_added, stopped, then_added}
 use Rattle.case_writing.specs.CaseText.{network_text, node_text, pipe_text, probe_text}
-use Rattle.case_writing.proofs.Pieces.{front_of_first, front_of_second, front_of_third, three_parts}
 use Rattle.case_writing.proofs.writing.add_network.Goals as goal
 
-pub returns-in_err-add_nodes-clause-front : goal.returns-in_err-add_nodes-clause-front
+pub returns-in_err-add_nodes : goal.returns-in_err-add_nodes
 unfolding network_text
-returns-in_err-add_nodes-clause-front g c =
-    let h = front_of_first (g.K.Sink.held c.args.out.now) (g.K.Sink.held c.add_nodes.new.out) c.args.page.now
-    (flat_map (node_text c.as_slice-tables.result.now) c.as_slice-nodes.result.now) (flat_map (pipe_text c.as_slice-nodes.result.now) c.as_slice-pipes.result.now) (flat_map (probe_text c.as_slice-pipes.result.now c.as_slice-nodes.result.now) c.args.case.now.probes) (network_text c.args.case.now)
-    (rw (c.as_slice-tables.ensures, c.as_slice-nodes.ensures, c.as_slice-pipes.ensures) refl) c.in_err-add_nodes.ensures.front in
-    search rules
+returns-in_err-add_nodes g c =
+    let case = c.args.case.now in
+    let pipes = flat_map (pipe_text case.nodes) case.pipes in
+    let probes = flat_map (probe_text case.pipes case.nodes) case.probes in
+    stopped (pipes ++ probes) (rw (c.as_slice-tables.ensures, c.as_slice-nodes.ensures) (sym (append_assoc (flat_map (node_text case.tables) case.nodes) pipes probes)))
+    c.from_residual.ensures.0 c.in_err-add_nodes.ensures
 
-pub returns-in_err-add_pipes-clause-front : goal.returns-in_err-add_pipes-clause-front
+pub returns-in_err-add_pipes : goal.returns-in_err-add_pipes
 unfolding network_text
-returns-in_err-add_pipes-clause-front g c =
-    let h = front_of_second (g.K.Sink.held c.args.out.now) (g.K.Sink.held c.add_nodes.new.out) (g.K.Sink.held c.add_pipes.new.out) c.args.page.now c.add_nodes.new.page
-    (flat_map (node_text c.as_slice-tables.result.now) c.as_slice-nodes.result.now) (flat_map (pipe_text c.as_slice-nodes.result.now) c.as_slice-pipes.result.now) (flat_map (probe_text c.as_slice-pipes.result.now c.as_slice-nodes.result.now) c.args.case.now.probes) (network_text c.args.case.now)
-    (rw (c.as_slice-tables.ensures, c.as_slice-nodes.ensures, c.as_slice-pipes.ensures) refl) c.in_ok-add_nodes.ensures.all c.in_err-add_pipes.ensures.front in
-    search rules
+returns-in_err-add_pipes g c =
+    let case = c.args.case.now in
+    stopped (flat_map (probe_text case.pipes case.nodes) case.probes) (rw (c.as_slice-tables.ensures, c.as_slice-nodes.ensures, c.as_slice-pipes.ensures) refl)
+    c.from_residual-in_err-add_pipes.ensures.0 (then_added refl (has_added c.in_ok-add_nodes.ensures) c.in_err-add_pipes.ensures)
 
-pub returns-clause-all : goal.returns-clause-all
+pub returns : goal.returns
 unfolding network_text
-returns-clause-all g c =
-    IfOk-weaker c.add_probes.result _ _
-    (λ _ h. three_parts (g.K.Sink.held c.args.out.now) (g.K.Sink.held c.add_nodes.new.out) (g.K.Sink.held c.add_pipes.new.out) (g.K.Sink.held c.add_probes.new.out) c.args.page.now c.add_nodes.new.page c.add_pipes.new.page c.add_probes.new.page
-    (flat_map (node_text c.as_slice-tables.result.now) c.as_slice-nodes.result.now) (flat_map (pipe_text c.as_slice-nodes.result.now) c.as_slice-pipes.result.now) (flat_map (probe_text c.as_slice-pipes.result.now c.as_slice-nodes.result.now) c.as_slice.result.now) (network_text c.args.case.now)
-    (rw (c.as_slice-tables.ensures, c.as_slice-nodes.ensures, c.as_slice-pipes.ensures, c.as_slice.ensures) refl) c.in_ok-add_nodes.ensures.all c.in_ok-add_pipes.ensures.all h)
-    c.add_probes.ensures.all
-
-pub returns-clause-front : goal.returns-clause-front
-unfolding network_text
-returns-clause-front g c =
-    IfErr-weaker c.add_probes.result _ _
-    (λ _ h. front_of_third (g.K.Sink.held c.args.out.now) (g.K.Sink.held c.add_nodes.new.out) (g.K.Sink.held c.add_pipes.new.out) (g.K.Sink.held c.add_probes.new.out) c.args.page.now c.add_nodes.new.page c.add_pipes.new.page
-    (flat_map (node_text c.as_slice-tables.result.now) c.as_slice-nodes.result.now) (flat_map (pipe_text c.as_slice-nodes.result.now) c.as_slice-pipes.result.now) (flat_map (probe_text c.as_slice-pipes.result.now c.as_slice-nodes.result.now) c.as_slice.result.now) (network_text c.args.case.now)
-    (rw (c.as_slice-tables.ensures, c.as_slice-nodes.ensures, c.as_slice-pipes.ensures, c.as_slice.ensures) refl) c.in_ok-add_nodes.ensures.all c.in_ok-add_pipes.ensures.all h)
-    c.add_probes.ensures.front
+returns g c =
+    then_added (rw (c.as_slice-tables.ensures, c.as_slice-nodes.ensures, c.as_slice-pipes.ensures, c.as_slice.ensures) refl)
+    (has_added (then_added refl (has_added c.in_ok-add_nodes.ensures) c.in_ok-add_pipes.ensures)) c.add_probes.ensures

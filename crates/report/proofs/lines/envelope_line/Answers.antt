@@ -1,8 +1,9 @@
 use Rattle.std.proofs.Common.{◌∷◌, [], codes, arith}
 use Rattle.std.proofs.lemmas.Grind.{common_steps}
-use Rattle.report.specs.Lines.{count_text, head_text, label}
+use Rattle.surge_io.specs.Fields.{count_text}
+use Rattle.report.specs.Lines.{head_text, label}
 use Rattle.report.specs.Report.{envelope_line}
-use Rattle.report.proofs.Runs.{two_runs}
+use Rattle.surge_io.proofs.FieldTexts.{two_runs}
 use Rattle.report.proofs.lines.envelope_line.Goals as goal
 
 pub returns : goal.returns

@@ -1,6 +1,7 @@
 use Rattle.std.proofs.Common.{◌∷◌, [], codes, arith}
 use Rattle.std.proofs.lemmas.Grind.{common_steps}
-use Rattle.report.specs.Lines.{count_text, head_text, label}
+use Rattle.surge_io.specs.Fields.{count_text}
+use Rattle.report.specs.Lines.{head_text, label}
 use Rattle.report.specs.Report.{peak_line}
 use Rattle.report.proofs.Runs.{four_runs}
 use Rattle.report.proofs.lines.peak_line.Goals as goal

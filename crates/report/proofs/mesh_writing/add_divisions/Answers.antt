@@ -1,30 +1,17 @@
-use Rattle.std.proofs.Common.{ap, rules, arith, ◌≡◌, length, subst, ℕ}
-use Rattle.std.specs.List.{flat_map, range_with_len}
-use Rattle.surge_io.specs.Pages.{Adds}
+use Rattle.std.proofs.Common.{◌≡◌, ap, arith, length}
 use Rattle.report.specs.MeshText.{division_line}
-use Rattle.report.proofs.Pieces.{adds_next, front_within}
+use Rattle.surge_io.proofs.Chains.{all_indexes, next_index, stopped_index}
 use Rattle.report.proofs.mesh_writing.add_divisions.Goals as goal
 
-pub returns-in_err-add-clause-front : goal.returns-in_err-add-clause-front
-returns-in_err-add-clause-front g c =
+pub returns-in_err-add : goal.returns-in_err-add
+returns-in_err-add g c =
     let e : c.as_bytes.result.now ≡ (division_line c.args.case.now c.args.mesh.now) c.loop-p.p = cc in
-    let one = rw e at c.in_err-add.ensures.front in
-    let h = front_within (division_line c.args.case.now c.args.mesh.now) c.loop-p.p (length c.args.case.now.pipes)
-    (g.K.Sink.held c.args.out.now) (g.K.Sink.held c.loop-p.out) (g.K.Sink.held c.add.new.out) c.args.page.now c.loop-p.page (omega (arith, ap length c.as_slice-p-end.ensures)) c.loop-p.invariant.added one in
-    search rules
+    stopped_index (division_line c.args.case.now c.args.mesh.now) c.loop-p.p (length c.args.case.now.pipes) (omega (arith, ap length c.as_slice-p-end.ensures)) e c.from_residual.ensures.0 c.loop-p.invariant c.in_err-add.ensures.added
 
 pub loop-p-preserved : goal.loop-p-preserved
 loop-p-preserved g c =
     let e : c.as_bytes.result.now ≡ (division_line c.args.case.now c.args.mesh.now) c.loop-p.p = cc in
-    let one = rw e at c.in_ok-add.ensures.all in
-    record {
-      added = adds_next (division_line c.args.case.now c.args.mesh.now) c.loop-p.p
-          (g.K.Sink.held c.args.out.now) (g.K.Sink.held c.loop-p.out) (g.K.Sink.held c.add.new.out) c.args.page.now c.loop-p.page c.add.new.self c.loop-p.invariant.added one;
-      later = omega (arith, c.loop-p.invariant.later, c.in_ok-add.ensures.later);
-    }
+    next_index (division_line c.args.case.now c.args.mesh.now) c.loop-p.p e c.loop-p.invariant c.in_ok-add.ensures.added
 
-pub returns-clause-all : goal.returns-clause-all
-returns-clause-all g c =
-    let e : c.loop-p.p ≡ length c.args.case.now.pipes = omega (arith, ap length c.as_slice-p-end.ensures) in
-    let P : ℕ → Type 0 = λ n. Adds (g.K.Sink.held c.args.out.now) c.args.page.now (g.K.Sink.held c.loop-p.out) c.loop-p.page (flat_map (division_line c.args.case.now c.args.mesh.now) (range_with_len 0 n)) in
-    subst P e c.loop-p.invariant.added
+pub returns : goal.returns
+returns g c = all_indexes (division_line c.args.case.now c.args.mesh.now) c.loop-p.p (length c.args.case.now.pipes) (omega (arith, ap length c.as_slice-p-end.ensures)) c.loop-p.invariant

@@ -3,12 +3,8 @@ use Rattle.report.specs.Report.{peak_text}
 use Rattle.report.specs.Reportable.{extremes_of}
 use Rattle.report.proofs.writing.add_peak.Goals as goal
 
-pub returns-clause-all : goal.returns-clause-all
-returns-clause-all g c =
-    let e : c.as_bytes.result.now ≡ peak_text c.args.case.now c.args.mesh.now (extremes_of c.args.mesh.now c.args.fold.now) = c.as_bytes.ensures ∙ c.line_of_peak-line.ensures in
-    rw e at c.add.ensures.all
-
-pub returns-clause-front : goal.returns-clause-front
-returns-clause-front g c =
-    let e : c.as_bytes.result.now ≡ peak_text c.args.case.now c.args.mesh.now (extremes_of c.args.mesh.now c.args.fold.now) = c.as_bytes.ensures ∙ c.line_of_peak-line.ensures in
-    rw e at c.add.ensures.front
+pub returns : goal.returns
+returns g c =
+    let run = c.args.run.now in
+    let e : c.as_bytes.result.now ≡ peak_text run.case.now run.mesh.now (extremes_of run.mesh.now run.fold.now) = c.as_bytes.ensures ∙ c.line_of_peak-line.ensures in
+    rw e at c.add.ensures.added

@@ -6,8 +6,4 @@ pub returns-in-Ok-clause-known : goal.returns-in-Ok-clause-known
 returns-in-Ok-clause-known g c =
     for_taken (g.S.Source.left c.args.src.now) c.args.job c.in-Ok.bytes.items
     (Tells c.answer_text.result (g.K.Sink.held c.args.out.now) (g.K.Sink.held c.answer_text.new.out))
-    c.in-Ok.ensures.bytes (rw (← c.deref.ensures.value) (record {
-      text = λ a. (c.answer_text.ensures.answer a).0;
-      number = λ a. (c.answer_text.ensures.answer a).1;
-      front = c.answer_text.ensures.front;
-    }))
+    c.in-Ok.ensures.bytes (rw (← c.deref.ensures.value) c.answer_text.ensures.tells)

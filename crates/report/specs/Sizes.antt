@@ -4,7 +4,8 @@ use Rattle.case_model.specs.declared.cases.Case.{Case}
 use Rattle.case_model.specs.declared.meshes.Mesh.{Mesh}
 use Rattle.case_model.specs.Mesh.{places_before}
 
--- its steps, nodes, pipes, places, probes and samples; the mesh has as many nodes and pipes as the case
+-- its steps, nodes, pipes, places, probes and samples; the mesh has as many nodes and pipes as the
+-- case
 pub record IsSmall (case : Case) (mesh : Mesh) : Type 0 where
   pub steps : case.steps ≤ 100_000_000
   pub same_nodes : length mesh.ends ≡ length case.nodes

@@ -2,7 +2,7 @@ use Rattle.std.proofs.Common.{◌≤◌, length, arith, to_z-of_z}
 use Rattle.std.proofs.lemmas.Grind.{common_steps}
 use Rattle.fixed_num.specs.Written.{written}
 use Rattle.fixed_num.proofs.Widths.{short_written}
-use Rattle.report.proofs.fields.add_number.Goals as goal
+use Rattle.surge_io.proofs.line.Line.add_number.Goals as goal
 
 pub add_field-requires : goal.add_field-requires
 add_field-requires c =

@@ -1,5 +1,5 @@
-use Rattle.surge_top.proofs.Fitting.{parts_of, probes_on, small}
-use Rattle.surge_top.proofs.computing.sizes.Goals as goal
+use Rattle.report.proofs.Fitting.{parts_of, probes_on, small}
+use Rattle.report.proofs.sizing.sizes.Goals as goal
 
 pub returns-clause-small : goal.returns-clause-small
 returns-clause-small c =

@@ -1,5 +1,5 @@
 -- How large an accepted case is, and that its probes are on its mesh.
-use Rattle.std.proofs.Common.{◌≡◌, ℕ, ◌<◌, ◌≤◌, ◌&&◌, nat_lt, true, false, length, sym, ap, ◌∙◌, arith}
+use Rattle.std.proofs.Common.{◌≡◌, ℕ, ◌<◌, ◌≤◌, ◌&&◌, nat_lt, true, false, List, [], ◌∷◌, length, sym, ap, ◌∙◌, arith}
 use Rattle.std.specs.List.{All}
 use Rattle.std.proofs.lemmas.Bool.Decides.{nat_tests}
 use Rattle.std.proofs.lemmas.List.Elements.{All-from_get_or}
@@ -18,7 +18,14 @@ use Rattle.case_model.specs.declared.cases.ProbeAt.{ProbeAt}
 use Rattle.case_model.specs.declared.cases.ProbeAt.TheVariants.{OnPipe, OnNode}
 use Rattle.case_model.specs.declared.meshes.Mesh.{Mesh}
 use Rattle.case_model.specs.declared.meshes.PipeMesh.{PipeMesh}
-use Rattle.surge_top.specs.Sizes.{IsSmall}
+use Rattle.std.proofs.lemmas.List.{length-map}
+use Rattle.case_model.specs.PlaceNumbers.{number_of}
+use Rattle.envelope.specs.CellLaws.{within-first}
+use Rattle.envelope.specs.Folds.{IsFoldOf, spans_of}
+use Rattle.envelope.specs.RowFolds.{probe_numbers}
+use Rattle.envelope.specs.declared.folds.Fold.{Fold}
+use Rattle.report.specs.Reportable.{IsReportable}
+use Rattle.report.specs.Sizes.{IsSmall}
 
 -- the law of accepted cases: each part keeps its rules, and the mesh has the parts of its case
 abbrev pub KeptLaw : Type 0
@@ -64,3 +71,23 @@ on_mesh case mesh (OnPipe pipe place) kept parts s o =
 pub probes_on : (case : Case) (mesh : Mesh) → IsAccepted case mesh → IsKept case → HasParts case mesh → All (λ probe. IsOn mesh probe.at) case.probes
 probes_on case mesh a kept parts =
     All-from_get_or (λ (probe : Probe). IsOn mesh probe.at) case.probes no_probe (λ q h. on_mesh case mesh (probe_at case q).at kept parts (a.read.spots q no_probe h) (kept.probes q h))
+
+-- ---- a fold over all its places
+
+pub few_numbers : (case : Case) (mesh : Mesh) (numbers : List ℕ) → numbers ≡ probe_numbers mesh case → length numbers ≡ length case.probes
+few_numbers case mesh numbers e = ap length e ∙ length-map case.probes (λ (probe : Probe). number_of mesh probe.at)
+
+pub reportable : (case : Case) (mesh : Mesh) (fold : Fold) → IsAccepted case mesh → IsSmall case mesh → All (λ probe. IsOn mesh probe.at) case.probes
+    → IsFoldOf ((0, mesh.places) ∷ []) (probe_numbers mesh case) case.steps case.every fold → IsReportable case mesh fold
+reportable case mesh fold a small on given = record {
+  sized = record { same_nodes = small.same_nodes; same_pipes = small.same_pipes; few_nodes = a.read.few_nodes; few_pipes = a.read.few_pipes };
+  some_pipes = a.some;
+  over = record { numbered = a.numbered; few_places = small.numbers; whole = λ k h. within-first (spans_of fold) mesh.places k given.spans_are h };
+  same_probes = few_numbers case mesh fold.probes.items given.probes_are;
+  same_steps = given.steps_are;
+  same_every = given.every_is;
+  probes_on = on;
+  few_probes = small.probes;
+  some_every = a.read.some_every;
+  few_steps = small.steps;
+}
