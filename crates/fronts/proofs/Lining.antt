@@ -17,7 +17,7 @@ use Rattle.fronts.specs.Noted.{band_noted, run_noted}
 use Rattle.fronts.specs.Stretches.{count_of, is_even, kept, row_of}
 
 -- a number is before these, behind them or among them
-where-is : (k low high : ℕ) → (k < low) ⊎ ((high ≤ k) ⊎ ((low ≤ k) × (k < high)))
+pub where-is : (k low high : ℕ) → (k < low) ⊎ ((high ≤ k) ⊎ ((low ≤ k) × (k < high)))
 where-is k low high = grind arith
 
 pub is-now : (s step : ℕ) → (s ≡ step) ⊎ (s ≢ step)

@@ -1,4 +1,5 @@
--- Bands of a stretch: the places whose distance is in an interval, which one step of the law raises together.
+-- Bands of a stretch: the places whose distance is in an interval, which one step of the law
+-- raises together.
 use Rattle.std.specs.Prelude.{◌≡◌, ℕ, ◌+◌, ◌-◌, ◌<◌, ◌≤◌, ◌⊎◌, ◌^◌, List, length, max, min}
 use Rattle.case_model.specs.declared.points.Point.{Point}
 use Rattle.case_model.specs.Meaning.{Meaning}
@@ -16,13 +17,15 @@ from_ends n x = min x (n - x)
 abbrev pub from_place : ℕ → ℕ → ℕ
 from_place c x = (c - x) + (x - c)
 
--- what the law makes of the points that a stretch keeps for a step: the point of place x one step later
+-- what the law makes of the points that a stretch keeps for a step: the point of place x one step
+-- later
 abbrev pub later_point : Meaning → Stretch → ℕ → ℕ → Point
 later_point law stretch step x =
     law.inner stretch.pipe (stretch.first + x)
     (kept stretch step (x - 1)) (kept stretch step x) (kept stretch step (x + 1))
 
--- the places whose distance is at least `low` and below `high` are one step further, and nothing else changes
+-- the places whose distance is at least `low` and below `high` are one step further, and nothing
+-- else changes
 pub record IsStepped (law : Meaning) (step : ℕ) (distance : ℕ → ℕ) (low high : ℕ)
     (old new : Stretch) : Type 0 where
   pub same : AreSamePlaces old new
@@ -49,8 +52,8 @@ pub record AreMade (law : Meaning) (places : Places) (earlier old new : List Poi
       (point_at earlier (x - 1)) (point_at earlier x) (point_at earlier (x + 1))
   pub outside : (x : ℕ) → (x < places.low) ⊎ (places.high ≤ x) → point_at new x ≡ point_at old x
 
--- the runs of places of 0 to n that are at least `low` and less than `high` from the nearer end: from `low` up to the
--- middle or to `gap`, and from `from` on
+-- the runs of places of 0 to n that are at least `low` and less than `high` from the nearer end:
+-- from `low` up to the middle or to `gap`, and from `from` on
 pub record AreRuns (n low high gap from until : ℕ) : Type 0 where
   pub some : 0 < low
   pub order : low < high

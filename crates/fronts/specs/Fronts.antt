@@ -1,5 +1,5 @@
--- Fronts: how far each place of a stretch is computed, by closed formulas, and which points of the rows of a law a
--- stretch holds behind its front.
+-- Fronts: how far each place of a stretch is computed, by closed formulas, and which points of
+-- the rows of a law a stretch holds behind its front.
 use Rattle.std.specs.Prelude.{◌≡◌, ◌≢◌, ℕ, ◌+◌, ◌-◌, ◌<◌, ◌≤◌, ◌⊎◌, min, max}
 use Rattle.case_model.specs.declared.points.Point.{Point}
 use Rattle.case_model.specs.Meaning.{Meaning}
@@ -12,8 +12,8 @@ use Rattle.fronts.specs.Stretches.{count_of, kept}
 abbrev pub spot : Meaning → Stretch → ℕ → ℕ → Point
 spot law stretch t x = (row law t).point stretch.pipe (stretch.first + x)
 
--- at each place x the point that is kept is that of the rows, for the step `front x` and the step before it, as far as
--- this isn't before `since x`
+-- at each place x the point that is kept is that of the rows, for the step `front x` and the step
+-- before it, as far as this isn't before `since x`
 pub record Holds (law : Meaning) (since front : ℕ → ℕ) (stretch : Stretch) : Type 0 where
   pub cell : (t x : ℕ) → x < count_of stretch → since x ≤ t → t ≤ front x → front x ≤ t + 1
       → kept stretch t x ≡ spot law stretch t x
@@ -24,8 +24,8 @@ pub record IsReady (step : ℕ) (since front : ℕ → ℕ) (x : ℕ) : Type 0 w
   pub high : step ≤ front x
   pub near : front x ≤ step + 1
 
--- the band of places at these distances is one step before `later`, which is the front itself elsewhere; all that the
--- law reads for it is there
+-- the band of places at these distances is one step before `later`, which is the front itself
+-- elsewhere; all that the law reads for it is there
 pub record Raises (step : ℕ) (distance : ℕ → ℕ) (low high count : ℕ) (since front later : ℕ → ℕ)
     : Type 0 where
   pub own : (x : ℕ) → x < count → low ≤ distance x → distance x < high
@@ -37,8 +37,8 @@ pub record Raises (step : ℕ) (distance : ℕ → ℕ) (low high count : ℕ) (
   pub raised : (x : ℕ) → x < count → low ≤ distance x → distance x < high → later x ≡ step + 1
   pub others : (x : ℕ) → x < count → (distance x < low) ⊎ (high ≤ distance x) → later x ≡ front x
 
--- the point of one place is put for a step: the front there is that step, and of the step before it the stretch holds
--- what it held
+-- the point of one place is put for a step: the front there is that step, and of the step before
+-- it the stretch holds what it held
 pub record Puts (step place : ℕ) (since front sooner later : ℕ → ℕ) : Type 0 where
   pub here : later place ≡ step
   pub kept : (t : ℕ) → t + 1 ≡ step → sooner place ≤ t
@@ -49,7 +49,8 @@ pub record Puts (step place : ℕ) (since front sooner later : ℕ → ℕ) : Ty
 abbrev pub ever : ℕ → ℕ
 ever x = 0
 
--- after the regions of a section up to number m, with the window's start s = m * w: a tent over the two stations
+-- after the regions of a section up to number m, with the window's start s = m * w: a tent over
+-- the two stations
 abbrev pub tent : ℕ → ℕ → ℕ → ℕ
 tent s n x = s + from_ends n x
 
@@ -65,8 +66,8 @@ loaded s w n x = max (s + from_ends n x) (s + w - from_ends n x)
 abbrev pub swept : ℕ → ℕ → ℕ → ℕ → ℕ → ℕ
 swept s w n k x = max (loaded s w n x) (min (s + k) (s + w + from_ends n x))
 
--- around a station, by the distance d from it: the block of the window from s on is loaded, and the triangle is
--- computed up to step s + k
+-- around a station, by the distance d from it: the block of the window from s on is loaded, and
+-- the triangle is computed up to step s + k
 abbrev pub fan : ℕ → ℕ → ℕ → ℕ → ℕ
 fan s w k d = s + min (max d k) (w - d)
 

@@ -1,5 +1,6 @@
 -- The points of places of a stretch, as a fold is told them.
-use Rattle.std.specs.Prelude.{ℕ, ◌+◌, ◌-◌, ◌==◌, ◌&&◌, nat_le, nat_lt, if◌then◌else◌, Bool, Some, None}
+use Rattle.std.specs.Prelude.{ℕ, ◌+◌, ◌-◌, ◌==◌, ◌&&◌, nat_le, nat_lt, if◌then◌else◌, Bool, Some}
+use Rattle.std.specs.Prelude.{None}
 use Rattle.envelope.specs.Notings.{Noted}
 use Rattle.envelope.specs.Notings.Noting.{OfPoint}
 use Rattle.fronts.specs.declared.stretches.Stretch.{Stretch}
@@ -12,7 +13,8 @@ run_noted stretch step low high s k =
     if (s == step) && (nat_le (stretch.number + low) k && nat_lt k (stretch.number + high))
     then Some (OfPoint (kept stretch step (k - stretch.number))) else None
 
--- place number k is in the stretch, at a distance from its nearer end that is at least `low` and below `high`
+-- place number k is in the stretch, at a distance from its nearer end that is at least `low` and
+-- below `high`
 abbrev pub is_in_band : Stretch → ℕ → ℕ → ℕ → Bool
 is_in_band stretch low high k =
     nat_le stretch.number k && (nat_lt k (stretch.number + count_of stretch)

@@ -1,4 +1,5 @@
--- A stretch of places of a pipe as contracts see it: how many places it has, and the points that it keeps of them.
+-- A stretch of places of a pipe as contracts see it: how many places it has, and the points that
+-- it keeps of them.
 use Rattle.std.specs.Prelude.{◌≡◌, ◌≢◌, ℕ, ◌%◌, ◌==◌, ◌<◌, Bool, true, false, List, length}
 use Rattle.case_model.specs.declared.points.Point.{Point}
 use Rattle.case_model.specs.Runs.{point_at}

@@ -1,5 +1,6 @@
-//! Stretches of the places of a pipe, whose fronts (how far each place is computed) are given by closed formulas: the
-//! points that they keep, the stencil that raises a band of places by one step, and how points are noted.
+//! Stretches of the places of a pipe, whose fronts (how far each place is computed) are given by
+//! closed formulas: the points that they keep, the stencil that raises a band of places by one
+//! step, and how points are noted.
 #![tactic(auto)]
 
 mod bands;

@@ -14,8 +14,8 @@ use crate::ranges::keeps_range;
 use case_model::{Law, Point};
 
 impl Stretch {
-    /// Raises the places from `low` on and below `high` to the step after `step`, of what is kept of them and of their
-    /// neighbours for `step`.
+    /// Raises the places from `low` on and below `high` to the step after `step`, of what is kept
+    /// of them and of their neighbours for `step`.
     pub fn step_run<L: Law>(&mut self, law: &L, step: u64, low: usize, high: usize)
         requires on_mesh { IsOnMesh (L.meaning law.now) self.old }
         requires after_first { 0 < low }
@@ -29,7 +29,8 @@ impl Stretch {
         self.raise_run(law, step, low, high);
     }
 
-    /// Raises the places whose distance from the nearer end of the stretch is at least `low` and below `high`.
+    /// Raises the places whose distance from the nearer end of the stretch is at least `low` and
+    /// below `high`.
     pub fn step_band<L: Law>(&mut self, law: &L, step: u64, low: usize, high: usize)
         requires on_mesh { IsOnMesh (L.meaning law.now) self.old }
         requires after_first { 0 < low }
@@ -37,7 +38,8 @@ impl Stretch {
         ensures stepped { let distance = from_ends (count_of self.old - 1) in
             IsStepped (L.meaning law.now) step distance low high self.old self.new }
         ensures holds { (since front later : ℕ → ℕ) →
-            Raises step (from_ends (count_of self.old - 1)) low high (count_of self.old) since front later →
+            Raises step (from_ends (count_of self.old - 1)) low high (count_of self.old) since
+            front later →
             Holds (L.meaning law.now) since front self.old →
             Holds (L.meaning law.now) since later self.new }
     {
@@ -100,7 +102,8 @@ fn step_places<L: Law>(law: &L, places: Places, old: &[Point], new: &mut [Point]
     requires low { places.low < places.high }
     requires high { places.high < length old.now }
     requires each { length new.old ≡ length old.now }
-    requires fits { places.first + length old.now ≤ reaches (L.meaning law.now).mesh places.pipe + 1 }
+    requires fits { places.first + length old.now
+        ≤ reaches (L.meaning law.now).mesh places.pipe + 1 }
     requires small { reaches (L.meaning law.now).mesh places.pipe < 2 ^ 32 }
     requires old_in { All IsPoint old.now }
     requires new_in { All IsPoint new.old }

@@ -7,8 +7,9 @@ ghost use Rattle.fronts.specs.PointProps.{points-prop};
 use case_model::Point;
 use std::alloc::{AllocError, Global};
 
-/// Places of a pipe that follow one another, each with two points: the last ones of an even and of an odd step. How they
-/// are kept is known here alone; a point is found by its step and by the count of places before it in the stretch.
+/// Places of a pipe that follow one another, each with two points: the last ones of an even and
+/// of an odd step. How they are kept is known here alone; a point is found by its step and by the
+/// count of places before it in the stretch.
 #[derive(Drop, Debug)]
 pub struct Stretch {
     /// The pipe.

@@ -8,6 +8,7 @@ use Rattle.fronts.specs.Bands.{from_ends}
 use Rattle.fronts.specs.Fronts.{Holds, IsReady, Raises, ever, loaded, risen, swept, tent}
 use Rattle.fronts.specs.Stretches.{AreSamePlaces, count_of}
 use Rattle.fronts.specs.declared.stretches.Stretch.{Stretch}
+use Rattle.fronts.proofs.Lining.{where-is}
 use Rattle.strands.proofs.Marking.{between-in, between-out, same-between}
 use Rattle.strands.specs.Marks.{Marks, is_between, marked, or_marked}
 use Rattle.strands.specs.Sections.{IsAdvanced, NotesInside}
@@ -47,9 +48,6 @@ swept-end s w n k x a b c = omega arith
 
 three : (s front later : ℕ) → (s ≤ front) ⊎ ((later < s) ⊎ ((front < s) × (s ≤ later)))
 three s front later = grind arith
-
-where-is : (k low high : ℕ) → (k < low) ⊎ ((high ≤ k) ⊎ ((low ≤ k) × (k < high)))
-where-is k low high = grind arith
 
 join : (a b c : Bool) → ((a ≡ false) × (b ≡ false) × (c ≡ false)) ⊎ (((a ≡ true) × (c ≡ true)) ⊎ ((a ≡ false) × (b ≡ true) × (c ≡ true)))
     → (a || b) ≡ c

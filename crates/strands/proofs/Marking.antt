@@ -19,7 +19,7 @@ use Rattle.fronts.specs.Fronts.{Holds, Raises, ever, spot}
 use Rattle.fronts.specs.Noted.{band_noted}
 use Rattle.fronts.specs.Stretches.{AreSamePlaces, count_of, kept}
 use Rattle.fronts.specs.declared.stretches.Stretch.{Stretch}
-use Rattle.fronts.proofs.Lining.{IsOutOfBand, band-in, band-out, in-or-out, is-now, value-of}
+use Rattle.fronts.proofs.Lining.{IsOutOfBand, band-in, band-out, in-or-out, is-now, value-of, where-is}
 use Rattle.strands.specs.Marks.{Marks, is_between, marked, or_marked}
 use Rattle.strands.specs.Sections.{IsLine}
 
@@ -102,9 +102,6 @@ out law stretch step low high front later s k ra (inr (inr a)) (inr (inr h)) =
     let x = k - stretch.number in
     let b : x < count_of stretch = (let l : stretch.number ≤ k = a.0 in let r : k < stretch.number + count_of stretch = a.1 in omega arith) in
     between-out stretch front later s k (inr (inr (apart s (front x) (later x) (ra.others x b h))))
-
-where-is : (k low high : ℕ) → (k < low) ⊎ ((high ≤ k) ⊎ ((low ≤ k) × (k < high)))
-where-is k low high = grind arith
 
 pub split-band : (law : Meaning) (stretch : Stretch) (step low high : ℕ) (front later : ℕ → ℕ) (s k : ℕ)
     → ArePlaces → IsLine law stretch

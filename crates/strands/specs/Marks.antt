@@ -1,4 +1,5 @@
--- Points of the rows of a law that are marked by step and place number, and those between two fronts of a stretch.
+-- Points of the rows of a law that are marked by step and place number, and those between two
+-- fronts of a stretch.
 use Rattle.std.specs.Prelude.{ℕ, ◌+◌, ◌-◌, ◌||◌, ◌&&◌, nat_le, nat_lt, Bool, if◌then◌else◌, None}
 use Rattle.case_model.specs.Meaning.{Meaning}
 use Rattle.envelope.specs.Notings.{Noted}

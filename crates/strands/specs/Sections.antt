@@ -23,9 +23,10 @@ pub record IsLine (law : Meaning) (stretch : Stretch) : Type 0 where
 abbrev pub NotesInside : Stretch → Fold → Type 0
 NotesInside stretch fold = AreInOneSpan (spans_of fold) (stretch.number + 1) (count_of stretch - 2)
 
--- the stretch and the fold are taken from one front to a later one: the stretch holds the points behind it, and the fold
--- was told all that lies between
-pub record IsAdvanced (law : Meaning) (front later : ℕ → ℕ) (old new : Stretch) (before after : Fold)
+-- the stretch and the fold are taken from one front to a later one: the stretch holds the points
+-- behind it, and the fold was told all that lies between
+pub record IsAdvanced (law : Meaning) (front later : ℕ
+    → ℕ) (old new : Stretch) (before after : Fold)
     : Type 0 where
   pub same : AreSamePlaces old new
   pub same_fold : IsSameFold before after

@@ -1,5 +1,6 @@
 -- Points as words: what a strand hands on to one of its sides.
-use Rattle.std.specs.Prelude.{◌≡◌, ℕ, ◌+◌, ◌-◌, ◌*◌, ◌/◌, ◌<◌, ◌≢◌, Bool, true, false, List, [], ◌∷◌, length, slice_index_or}
+use Rattle.std.specs.Prelude.{◌≡◌, ℕ, ◌+◌, ◌-◌, ◌*◌, ◌/◌, ◌<◌, ◌≢◌, Bool, true, false, List, []}
+use Rattle.std.specs.Prelude.{◌∷◌, length, slice_index_or}
 use Rattle.case_model.specs.declared.points.Point.{Point}
 use Rattle.case_model.specs.Meaning.{Meaning}
 use Rattle.case_model.specs.Words.{words_of}
@@ -28,8 +29,8 @@ abbrev pub from_end : Bool → ℕ → ℕ → ℕ
 from_end true n d = d
 from_end false n d = n - d
 
--- the points of a section's block for a side, over the window from step s on: two at each distance from 1 on, the
--- earlier first
+-- the points of a section's block for a side, over the window from step s on: two at each
+-- distance from 1 on, the earlier first
 unfoldable pub section_side : Meaning → Stretch → Bool → ℕ → ℕ → Point
 section_side law stretch left s j =
     spot law stretch (s + (j + 1) / 2) (from_end left (count_of stretch - 1) (j / 2 + 1))

@@ -6,13 +6,14 @@ ghost use Rattle.case_model.specs.declared.points.Point.{Point as PointSeen};
 ghost use Rattle.case_model.specs.Words.{words_of};
 ghost use Rattle.fronts.specs.Fronts.{Holds, ever, tent};
 ghost use Rattle.fronts.specs.Stretches.{count_of};
-ghost use Rattle.strands.specs.Words.{HasPoints, IsWritten, from_end as end_place, quad, section_side};
+ghost use Rattle.strands.specs.Words.{HasPoints, IsWritten, from_end as end_place, quad};
+ghost use Rattle.strands.specs.Words.{section_side};
 
 use case_model::{Point, from_words, to_words};
 use fronts::Stretch;
 
-/// Writes the block of a section for its left or its right side: the points beside the station at that side, over the
-/// window of so many steps after `start`, as words.
+/// Writes the block of a section for its left or its right side: the points beside the station at
+/// that side, over the window of so many steps after `start`, as words.
 pub fn write_side(stretch: &Stretch, left: bool, window: usize, start: u64, out: &mut [u64])
     requires each { length out.old ≡ 4 * window }
     requires long { window + 1 ≤ count_of stretch.now }

@@ -1,4 +1,5 @@
-//! The strands of a layout: how each computes its regions of space and time from the blocks of its neighbours.
+//! The strands of a layout: how each computes its regions of space and time from the blocks of
+//! its neighbours.
 #![tactic(auto)]
 
 mod blocks;

@@ -10,8 +10,8 @@ use case_model::Law;
 use envelope::{Fold, numbers_tell_places, stands_for_equal_maps};
 use fronts::Stretch;
 
-/// Raises the places of a section whose distance from the nearer station is at least `low` and below `high` to the step
-/// after `step`, and notes them.
+/// Raises the places of a section whose distance from the nearer station is at least `low` and
+/// below `high` to the step after `step`, and notes them.
 pub fn advance<L: Law>(
     law: &L,
     stretch: &mut Stretch,
@@ -25,7 +25,8 @@ pub fn advance<L: Law>(
     requires room { step + 1 < 2 ^ 64 }
     requires after_first { 0 < low }
     ensures { (front later : ℕ → ℕ) →
-        Raises step (from_ends (count_of stretch.old - 1)) low high (count_of stretch.old) ever front later →
+        Raises step (from_ends (count_of stretch.old - 1)) low high (count_of stretch.old) ever
+        front later →
         Holds (L.meaning law.now) ever front stretch.old →
         IsAdvanced (L.meaning law.now) front later stretch.old stretch.new fold.old fold.new }
 {
@@ -35,13 +36,15 @@ pub fn advance<L: Law>(
     stretch.note_band(fold, step + 1, low, high);
 }
 
-/// Region 0 of a section: from row 0 to the tent over its two stations.
+/// Region 0 of a section: from the initial row to the tent over its two stations.
 pub fn advance_start<L: Law>(law: &L, stretch: &mut Stretch, fold: &mut Fold)
     requires line { IsLine (L.meaning law.now) stretch.old }
     requires noted { NotesInside stretch.old fold.old }
-    requires holds { Holds (L.meaning law.now) ever (risen (count_of stretch.old - 1) 0) stretch.old }
+    requires holds { let n = count_of stretch.old - 1 in
+        Holds (L.meaning law.now) ever (risen n 0) stretch.old }
     ensures { let n = count_of stretch.old - 1 in
-        IsAdvanced (L.meaning law.now) (risen n 0) (tent 0 n) stretch.old stretch.new fold.old fold.new }
+        IsAdvanced (L.meaning law.now) (risen n 0) (tent 0 n)
+        stretch.old stretch.new fold.old fold.new }
 {
     stands_for_equal_maps();
     let last = stretch.count() - 1;
@@ -50,8 +53,8 @@ pub fn advance_start<L: Law>(law: &L, stretch: &mut Stretch, fold: &mut Fold)
     }
 }
 
-/// A later region of a section, over the window of so many steps after `start`: the blocks of both stations are loaded,
-/// and the tent is raised by a window.
+/// A later region of a section, over the window of so many steps after `start`: the blocks of
+/// both stations are loaded, and the tent is raised by a window.
 pub fn advance_region<L: Law>(
     law: &L,
     window: usize,
