@@ -1,7 +1,6 @@
 -- What fits a word by its size.
-use Rattle.std.proofs.Common.{◌≤◌, ◌≡◌, ◌+◌, ◌*◌, ℤ, ◌*ℤ◌, unsigned_abs, w64, FitsSigned, to_z, of_z, arith, rules}
+use Rattle.std.proofs.Common.{◌≤◌, ◌≡◌, ℤ, ◌*ℤ◌, unsigned_abs, w64, FitsSigned, to_z, of_z, arith, rules}
 use Rattle.std.specs.Int.{w128}
-use Rattle.fixed_num.specs.Rounding.{rnd}
 use Rattle.std.proofs.lemmas.Int.{ints, fits_signed_from_abs, fits_signed_mul, to_z-of_z}
 
 pub fits : (z : ℤ) → unsigned_abs z ≤ 1000000000000000000 → FitsSigned w64 z
@@ -21,21 +20,3 @@ wide_fits x y h k = fits_signed_mul w128 x y 9223372036854775808 922337203685477
 pub wide_product : (x y : ℤ) → FitsSigned w64 x → FitsSigned w64 y →
     to_z w128 (of_z w128 (to_z w128 (of_z w128 (to_z w64 (of_z w64 x))) *ℤ to_z w128 (of_z w128 (to_z w64 (of_z w64 y))))) ≡ x *ℤ y
 wide_product x y h k = rw (wide x h, wide y k) (to_z-of_z w128 (x *ℤ y) (wide_fits x y h k))
-
--- a rounded quotient of such a product is that of the numbers themselves
-pub quotient_of_product : (x y d r : ℤ) → FitsSigned w64 x → FitsSigned w64 y → FitsSigned w64 d →
-    r ≡ rnd (to_z w128 (of_z w128 (to_z w128 (of_z w128 (to_z w64 (of_z w64 x))) *ℤ to_z w128 (of_z w128 (to_z w64 (of_z w64 y)))))) (to_z w128 (of_z w128 (to_z w64 (of_z w64 d)))) →
-    r ≡ rnd (x *ℤ y) d
-quotient_of_product x y d r h k w e = rw (wide_product x y h k, wide d w) at e
-
--- a number that is cut to a word that it fits
-pub fits_cut : (z : ℤ) → FitsSigned w64 z → FitsSigned w64 (to_z w128 (of_z w128 z))
-fits_cut z h = rw (to_z-of_z w128 z (search rules)) h
-
-pub cut : (z : ℤ) → FitsSigned w64 z → to_z w64 (of_z w64 (to_z w128 (of_z w128 z))) ≡ z
-cut z h = rw (to_z-of_z w128 z (search rules)) (to_z-of_z w64 z h)
-
-pub size_of_quotient : (x y d r : ℤ) → FitsSigned w64 x → FitsSigned w64 y → FitsSigned w64 d →
-    2 * unsigned_abs r * unsigned_abs (to_z w128 (of_z w128 (to_z w64 (of_z w64 d)))) ≤ 2 * unsigned_abs (to_z w128 (of_z w128 (to_z w128 (of_z w128 (to_z w64 (of_z w64 x))) *ℤ to_z w128 (of_z w128 (to_z w64 (of_z w64 y)))))) + unsigned_abs (to_z w128 (of_z w128 (to_z w64 (of_z w64 d)))) →
-    2 * unsigned_abs r * unsigned_abs d ≤ 2 * unsigned_abs (x *ℤ y) + unsigned_abs d
-size_of_quotient x y d r h k w e = rw (wide_product x y h k, wide d w) at e

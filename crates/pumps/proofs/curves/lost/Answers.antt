@@ -1,24 +1,19 @@
-use Rattle.std.proofs.Common.{FitsSigned, w64, ◌≤◌, unsigned_abs, ◌≡◌, ◌∙◌, ◌*ℤ◌, pos, arith}
-use Rattle.fixed_num.specs.Rounding.{rnd}
-use Rattle.fixed_num.proofs.Fits.{fits, cut, fits_cut, wide_product}
-use Rattle.pumps.proofs.Scales.{lost_below}
+use Rattle.std.proofs.Common.{arith, to_z-of_z}
+use Rattle.pumps.proofs.Scales.{lost_fits, lost_below}
 use Rattle.pumps.proofs.curves.lost.Goals as goal
-
-is_small : (c : goal.After-rnd) → unsigned_abs c.rnd.result ≤ 40000000000000001
-is_small c =
-    let s = rw (wide_product c.args.b c.args.flow c.ranges.b c.ranges.flow) at c.rnd.ensures.size in
-    lost_below c.args.b c.args.flow c.rnd.result c.requires.b_in c.requires.flow_in s
-
-is_narrow : (c : goal.After-rnd) → FitsSigned w64 c.rnd.result
-is_narrow c = let s = is_small c in fits c.rnd.result (omega arith)
+use Rattle.fixed_num.proofs.Fits.{fits}
 
 pub overflow_cast-result : goal.overflow_cast-result
-overflow_cast-result c = fits_cut c.rnd.result (is_narrow c)
+overflow_cast-result c =
+    let f = lost_fits c.args.b c.args.flow c.requires.b_in c.requires.flow_in in
+    grind (arith, to_z-of_z, fits c.rnd.result, lost_below c.args.b c.args.flow c.rnd.result c.requires.b_in c.requires.flow_in)
 
 pub returns-clause-value : goal.returns-clause-value
 returns-clause-value c =
-    let e : c.rnd.result ≡ rnd (c.args.b *ℤ c.args.flow) (pos 1000000000) = rw (wide_product c.args.b c.args.flow c.ranges.b c.ranges.flow) at c.rnd.ensures.value in
-    cut c.rnd.result (is_narrow c) ∙ e
+    let f = lost_fits c.args.b c.args.flow c.requires.b_in c.requires.flow_in in
+    grind (arith, to_z-of_z, fits c.rnd.result, lost_below c.args.b c.args.flow c.rnd.result c.requires.b_in c.requires.flow_in)
 
 pub returns-clause-size : goal.returns-clause-size
-returns-clause-size c = rw (cut c.rnd.result (is_narrow c)) (is_small c)
+returns-clause-size c =
+    let f = lost_fits c.args.b c.args.flow c.requires.b_in c.requires.flow_in in
+    grind (arith, to_z-of_z, fits c.rnd.result, lost_below c.args.b c.args.flow c.rnd.result c.requires.b_in c.requires.flow_in)
