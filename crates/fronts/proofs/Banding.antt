@@ -1,6 +1,5 @@
 -- A band of distances from the nearer end as two runs of places.
-use Rattle.std.proofs.Common.{◌≡◌, ℕ, ◌+◌, ◌-◌, ◌<◌, ◌≤◌, ◌⊎◌, inl, inr, ◌∙◌, ap, sym, min, max, length, refl, arith}
-use Rattle.case_model.specs.declared.points.Point.{Point}
+use Rattle.std.proofs.Common.{◌≡◌, ℕ, ◌+◌, ◌-◌, ◌<◌, ◌≤◌, ◌⊎◌, inl, inr, ◌∙◌, ap, min, max, refl, arith}
 use Rattle.case_model.specs.Meaning.{Meaning}
 use Rattle.fronts.specs.Bands.{AreRuns, IsStepped, from_ends, later_point}
 use Rattle.fronts.specs.Stretches.{AreSamePlaces, count_of, is_even, kept}

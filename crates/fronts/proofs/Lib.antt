@@ -1,4 +1,4 @@
 mod Banding
 pub mod Lining
 mod Making
-mod Raising
+pub mod Raising

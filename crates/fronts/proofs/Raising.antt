@@ -1,5 +1,5 @@
 -- What a stretch holds after a step of a band, and after a point is put.
-use Rattle.std.proofs.Common.{◌≡◌, ℕ, suc, ◌+◌, ◌-◌, ◌<◌, ◌≤◌, ◌⊎◌, inl, inr, ◌∙◌, ap, sym, subst, length, refl, arith}
+use Rattle.std.proofs.Common.{◌≡◌, ℕ, ◌+◌, ◌-◌, ◌<◌, ◌≤◌, ◌⊎◌, inl, inr, ◌∙◌, ap, sym, subst, arith}
 use Rattle.std.specs.Prelude.{◌≢◌, ◌%◌, Bool, true, false}
 use Rattle.std.proofs.lemmas.Bool.{eq-eqb, ne_eqb}
 use Rattle.case_model.specs.declared.points.Point.{Point}
@@ -111,7 +111,7 @@ parity t step e h = elim (two t) [
 -- a point that is put
 pub put-on : (law : Meaning) (step place : ℕ) (point : Point) (old new : Stretch)
     (since front sooner later : ℕ → ℕ) → IsPut step place point old new
-    → Puts step place since front sooner later → point ≡ spot law old step place
+    → Puts step place (count_of old) since front sooner later → point ≡ spot law old step place
     → Holds law since front old → Holds law sooner later new
 put-on law step place point old new since front sooner later pu ps e h = record {
   cell = λ t x b s f n.
@@ -134,7 +134,7 @@ put-on law step place point old new since front sooner later pu ps e h = record 
                   ∙ sym m
             ]
         | inr k ↦
-            let o = ps.beside x k in
+            let o = ps.beside x b' k in
             let l : later x ≡ front x = o.0 in
             let w : since x ≤ sooner x = o.1 in
             pu.beside t x k ∙ h.cell t x b' (omega arith) (omega arith) (omega arith) ∙ sym m

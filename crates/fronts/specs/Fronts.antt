@@ -39,11 +39,11 @@ pub record Raises (step : ℕ) (distance : ℕ → ℕ) (low high count : ℕ) (
 
 -- the point of one place is put for a step: the front there is that step, and of the step before
 -- it the stretch holds what it held
-pub record Puts (step place : ℕ) (since front sooner later : ℕ → ℕ) : Type 0 where
+pub record Puts (step place count : ℕ) (since front sooner later : ℕ → ℕ) : Type 0 where
   pub here : later place ≡ step
   pub kept : (t : ℕ) → t + 1 ≡ step → sooner place ≤ t
       → (since place ≤ t) × (t ≤ front place) × (front place ≤ t + 1)
-  pub beside : (x : ℕ) → x ≢ place → (later x ≡ front x) × (since x ≤ sooner x)
+  pub beside : (x : ℕ) → x < count → x ≢ place → (later x ≡ front x) × (since x ≤ sooner x)
 
 -- nothing is kept that is too old
 abbrev pub ever : ℕ → ℕ

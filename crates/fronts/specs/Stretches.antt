@@ -1,6 +1,6 @@
 -- A stretch of places of a pipe as contracts see it: how many places it has, and the points that
 -- it keeps of them.
-use Rattle.std.specs.Prelude.{◌≡◌, ◌≢◌, ℕ, ◌%◌, ◌==◌, ◌<◌, Bool, true, false, List, length}
+use Rattle.std.specs.Prelude.{◌≡◌, ◌≢◌, ℕ, ◌%◌, ◌==◌, Bool, true, false, List, length}
 use Rattle.case_model.specs.declared.points.Point.{Point}
 use Rattle.case_model.specs.Runs.{point_at}
 use Rattle.fronts.specs.declared.stretches.Stretch.{Stretch}

@@ -1,11 +1,11 @@
 -- One front after another: what the steps of a region make together.
-use Rattle.std.proofs.Common.{◌≡◌, ℕ, ◌+◌, ◌-◌, ◌*◌, ◌/◌, ◌<◌, ◌≤◌, ◌⊎◌, inl, inr, ◌∙◌, ap, sym, subst, min, max, refl, arith, Bool, true, false}
+use Rattle.std.proofs.Common.{◌≡◌, ℕ, ◌+◌, ◌-◌, ◌*◌, ◌/◌, ◌<◌, ◌≤◌, ◌⊎◌, inl, inr, ◌∙◌, ap, sym, subst, max, refl, arith, Bool, true, false}
 use Rattle.std.specs.Prelude.{◌||◌}
 use Rattle.case_model.specs.Meaning.{Meaning}
 use Rattle.envelope.specs.Folds.{IsSameFold, Stands}
 use Rattle.envelope.specs.declared.folds.Fold.{Fold}
 use Rattle.fronts.specs.Bands.{from_ends}
-use Rattle.fronts.specs.Fronts.{Holds, IsReady, Raises, ever, loaded, risen, swept, tent}
+use Rattle.fronts.specs.Fronts.{Holds, Raises, ever, loaded, risen, swept, tent}
 use Rattle.fronts.specs.Stretches.{AreSamePlaces, count_of}
 use Rattle.fronts.specs.declared.stretches.Stretch.{Stretch}
 use Rattle.fronts.proofs.Lining.{where-is}

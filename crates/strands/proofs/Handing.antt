@@ -1,5 +1,5 @@
 -- What a section hands on: its points beside a station.
-use Rattle.std.proofs.Common.{◌≡◌, ℕ, ◌+◌, ◌-◌, ◌/◌, ◌<◌, ◌≤◌, ◌⊎◌, inl, inr, ◌∙◌, ap, sym, arith, Bool, true, false, List, min}
+use Rattle.std.proofs.Common.{◌≡◌, ℕ, ◌+◌, ◌-◌, ◌/◌, ◌<◌, ◌≤◌, ◌⊎◌, inl, inr, ◌∙◌, ap, sym, arith, Bool, true, false, List}
 use Rattle.case_model.specs.declared.points.Point.{Point}
 use Rattle.case_model.specs.Meaning.{Meaning}
 use Rattle.case_model.specs.Words.{words_of}
@@ -31,9 +31,9 @@ unfolding section_side
 handed-more law stretch left n w s j step place point old new m a b h e f p points put =
     let size : count_of stretch ≡ count_of stretch - 1 + 1 = omega arith in
     let is : point ≡ spot law stretch (s + (j + 1) / 2) (from_end left (count_of stretch - 1) (j / 2 + 1)) =
-        p ∙ ap (λ t. kept stretch t place) e
-        ∙ ap (kept stretch (s + (j + 1) / 2)) (f ∙ ap (λ z. from_end left z (j / 2 + 1)) m)
-        ∙ handed law stretch left (count_of stretch - 1) w s j size (omega arith) b h in
+    p ∙ ap (λ t. kept stretch t place) e
+    ∙ ap (kept stretch (s + (j + 1) / 2)) (f ∙ ap (λ z. from_end left z (j / 2 + 1)) m)
+    ∙ handed law stretch left (count_of stretch - 1) w s j size (omega arith) b h in
     record {
       each = λ i l. elim (before-or-at i j l) [
         | inl k ↦ put.beside i (λ z. omega arith) ∙ points.each i k

@@ -1,3 +1,4 @@
 mod Advancing
 mod Handing
+mod Loading
 mod Marking

@@ -14,10 +14,10 @@ use Rattle.envelope.specs.Extremes.{first_of}
 use Rattle.envelope.specs.Notings.{Agree, Noted, Noting, union}
 use Rattle.envelope.specs.Notings.Noting.{OfPoint}
 use Rattle.envelope.specs.Rows.{noting_at, rows_noted}
-use Rattle.fronts.specs.Bands.{IsOnMesh, from_ends}
+use Rattle.fronts.specs.Bands.{from_ends}
 use Rattle.fronts.specs.Fronts.{Holds, Raises, ever, spot}
 use Rattle.fronts.specs.Noted.{band_noted}
-use Rattle.fronts.specs.Stretches.{AreSamePlaces, count_of, kept}
+use Rattle.fronts.specs.Stretches.{AreSamePlaces, count_of}
 use Rattle.fronts.specs.declared.stretches.Stretch.{Stretch}
 use Rattle.fronts.proofs.Lining.{IsOutOfBand, band-in, band-out, in-or-out, is-now, value-of, where-is}
 use Rattle.strands.specs.Marks.{Marks, is_between, marked, or_marked}

@@ -5,5 +5,5 @@
 mod blocks;
 mod sections;
 
-pub use blocks::write_side;
+pub use blocks::{load_side, write_side};
 pub use sections::{advance, advance_region, advance_start};

@@ -1,4 +1,4 @@
-use Rattle.std.proofs.Common.{◌≡◌, ◌+◌, ◌-◌, ◌/◌, ◌∙◌, ap, arith}
+use Rattle.std.proofs.Common.{◌≡◌, ◌+◌, ◌-◌, ◌/◌, ◌∙◌, arith}
 use Rattle.fronts.specs.Stretches.{count_of}
 use Rattle.strands.proofs.Handing.{handed-more}
 use Rattle.strands.proofs.blocks.write_side.Goals as goal

@@ -1,5 +1,4 @@
-use Rattle.std.proofs.Common.{◌+◌, ◌-◌, ◌∙◌, ap, sym}
-use Rattle.case_model.specs.Meaning.{Meaning}
+use Rattle.std.proofs.Common.{◌+◌}
 use Rattle.envelope.specs.Notings.{union}
 use Rattle.fronts.specs.Fronts.{ever}
 use Rattle.fronts.specs.Noted.{band_noted}

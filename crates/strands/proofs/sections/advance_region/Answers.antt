@@ -1,4 +1,4 @@
-use Rattle.std.proofs.Common.{◌≡◌, ◌+◌, ◌-◌, ◌≤◌, ◌<◌, ◌*◌, ◌/◌, max, arith, refl, subst, sym}
+use Rattle.std.proofs.Common.{◌≡◌, ◌+◌, ◌-◌, ◌/◌, max, arith, subst}
 use Rattle.fronts.specs.Fronts.{loaded, swept, tent}
 use Rattle.fronts.specs.Stretches.{count_of}
 use Rattle.strands.specs.Sections.{IsAdvanced}

@@ -1,4 +1,4 @@
-use Rattle.std.proofs.Common.{◌≡◌, ◌+◌, ◌-◌, ◌≤◌, ◌<◌, ◌*◌, ◌/◌, max, arith, refl, subst, sym}
+use Rattle.std.proofs.Common.{◌≡◌, ◌+◌, ◌-◌, arith, subst, sym}
 use Rattle.fronts.specs.Bands.{from_ends}
 use Rattle.fronts.specs.Fronts.{Raises, ever, risen, tent}
 use Rattle.fronts.specs.Stretches.{count_of}
