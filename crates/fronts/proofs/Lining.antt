@@ -42,14 +42,14 @@ unfolding line_noted
 line-in first points step s k e h b =
     rw (eq-eqb s step e, le-leb first k h, lt-ltb k (first + length points) b) refl
 
-run-before : (stretch : Stretch) (step low high s k : ℕ) → (s ≢ step) ⊎ ((k < stretch.number + low) ⊎ (stretch.number + high ≤ k))
+pub run-before : (stretch : Stretch) (step low high s k : ℕ) → (s ≢ step) ⊎ ((k < stretch.number + low) ⊎ (stretch.number + high ≤ k))
     → run_noted stretch step low high s k ≡ None
 unfolding run_noted
 run-before stretch step low high s k (inl h) = rw (ne_eqb s step h) refl
 run-before stretch step low high s k (inr (inl h)) = rw (lt-leb (stretch.number + low) k h, and-false) refl
 run-before stretch step low high s k (inr (inr h)) = rw (le-ltb k (stretch.number + high) h, and-false, and-false) refl
 
-run-in : (stretch : Stretch) (step low high s k : ℕ) → s ≡ step → stretch.number + low ≤ k → k < stretch.number + high
+pub run-in : (stretch : Stretch) (step low high s k : ℕ) → s ≡ step → stretch.number + low ≤ k → k < stretch.number + high
     → run_noted stretch step low high s k ≡ Some (OfPoint (kept stretch step (k - stretch.number)))
 unfolding run_noted
 run-in stretch step low high s k e h b =
@@ -283,7 +283,7 @@ pub value-of : (b : Bool) (v y : Noting) → cond b (Some v) None ≡ Some y →
 value-of true v y e = cc
 value-of false v y e = cc
 
-run-value : (stretch : Stretch) (step low high s k : ℕ) (y : Noting) → run_noted stretch step low high s k ≡ Some y
+pub run-value : (stretch : Stretch) (step low high s k : ℕ) (y : Noting) → run_noted stretch step low high s k ≡ Some y
     → y ≡ OfPoint (kept stretch step (k - stretch.number))
 unfolding run_noted
 run-value stretch step low high s k y e = value-of _ _ y e

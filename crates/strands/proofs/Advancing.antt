@@ -101,10 +101,10 @@ same-marks : (law : Meaning) (fold : Fold) (one other : Marks) → ((s k : ℕ) 
     → Stands fold (marked law one) → Stands fold (marked law other)
 same-marks law fold one other e h = subst (λ (m : Marks). Stands fold (marked law m)) (λ i s k. e s k i) h
 
-pub advanced-none : (law : Meaning) (front later : ℕ → ℕ) (stretch : Stretch) (fold : Fold)
-    → Holds law ever front stretch → ((x : ℕ) → x < count_of stretch → front x ≡ later x)
-    → IsAdvanced law front later stretch stretch fold fold
-advanced-none law front later stretch fold h e = record {
+pub advanced-none : (law : Meaning) (since front later : ℕ → ℕ) (stretch : Stretch) (fold : Fold)
+    → Holds law since front stretch → ((x : ℕ) → x < count_of stretch → front x ≡ later x)
+    → IsAdvanced law since front later stretch stretch fold fold
+advanced-none law since front later stretch fold h e = record {
   same = record { pipe_is = refl; first_is = refl; number_is = refl; count_is = refl };
   same_fold = record { spans_are = refl; probes_are = refl; steps_are = refl; every_is = refl };
   holds = record { cell = λ t x b s f n. let m : front x ≡ later x = e x b in h.cell t x b s (omega arith) (omega arith) };
@@ -130,11 +130,11 @@ advanced-none law front later stretch fold h e = record {
       ]
     ]
 
-pub advanced-more : (law : Meaning) (from front later : ℕ → ℕ) (old mid new : Stretch) (first second third : Fold)
+pub advanced-more : (law : Meaning) (since from front later : ℕ → ℕ) (old mid new : Stretch) (first second third : Fold)
     → ((x : ℕ) → x < count_of old → (from x ≤ front x) × (front x ≤ later x))
-    → IsAdvanced law from front old mid first second → IsAdvanced law front later mid new second third
-    → IsAdvanced law from later old new first third
-advanced-more law from front later old mid new first second third e one two = record {
+    → IsAdvanced law since from front old mid first second → IsAdvanced law since front later mid new second third
+    → IsAdvanced law since from later old new first third
+advanced-more law since from front later old mid new first second third e one two = record {
   same = record {
     pipe_is = two.same.pipe_is ∙ one.same.pipe_is;
     first_is = two.same.first_is ∙ one.same.first_is;
@@ -167,37 +167,37 @@ notes-same old new before after same fold h = rw (same.number_is, same.count_is,
 -- step k of a region
 pub region-more : (law : Meaning) (s w n k low : ℕ) (old mid new : Stretch) (first second third : Fold)
     → count_of old ≡ n + 1 → w ≤ n → w < 2 * k → low ≡ max (w + 1 - k) (k - w)
-    → IsAdvanced law (loaded s w n) (swept s w n (k - 1)) old mid first second
+    → IsAdvanced law ever (loaded s w n) (swept s w n (k - 1)) old mid first second
     → ((front later : ℕ → ℕ) → Raises (s + (k - 1)) (from_ends (count_of mid - 1)) low k (count_of mid) ever front later
-    → Holds law ever front mid → IsAdvanced law front later mid new second third)
-    → IsAdvanced law (loaded s w n) (swept s w n k) old new first third
+    → Holds law ever front mid → IsAdvanced law ever front later mid new second third)
+    → IsAdvanced law ever (loaded s w n) (swept s w n k) old new first third
 region-more law s w n k low old mid new first second third size a b e h f =
     let long : count_of mid ≡ n + 1 = h.same.count_is ∙ size in
     let m : count_of mid - 1 ≡ n = omega arith in
     let ra = subst (λ c. Raises (s + (k - 1)) (from_ends (count_of mid - 1)) low k c ever (swept s w n (k - 1)) (swept s w n k)) (sym long)
     (subst (λ d. Raises (s + (k - 1)) (from_ends d) low k (n + 1) ever (swept s w n (k - 1)) (swept s w n k)) (sym m) (raises-more s w n k low e a b)) in
-    advanced-more law (loaded s w n) (swept s w n (k - 1)) (swept s w n k) old mid new first second third
+    advanced-more law ever (loaded s w n) (swept s w n (k - 1)) (swept s w n k) old mid new first second third
     (λ x l. (omega arith, omega arith)) h (f (swept s w n (k - 1)) (swept s w n k) ra h.holds)
 
 pub start-more : (law : Meaning) (n k : ℕ) (old mid new : Stretch) (first second third : Fold)
     → count_of old ≡ n + 1 → 1 ≤ k → 2 * k ≤ n
-    → IsAdvanced law (risen n 0) (risen n (k - 1)) old mid first second
+    → IsAdvanced law ever (risen n 0) (risen n (k - 1)) old mid first second
     → ((front later : ℕ → ℕ) → Raises (k - 1) (from_ends (count_of mid - 1)) k n (count_of mid) ever front later
-    → Holds law ever front mid → IsAdvanced law front later mid new second third)
-    → IsAdvanced law (risen n 0) (risen n k) old new first third
+    → Holds law ever front mid → IsAdvanced law ever front later mid new second third)
+    → IsAdvanced law ever (risen n 0) (risen n k) old new first third
 start-more law n k old mid new first second third size a b h f =
     let long : count_of mid ≡ n + 1 = h.same.count_is ∙ size in
     let m : count_of mid - 1 ≡ n = omega arith in
     let ra = subst (λ c. Raises (k - 1) (from_ends (count_of mid - 1)) k n c ever (risen n (k - 1)) (risen n k)) (sym long)
     (subst (λ d. Raises (k - 1) (from_ends d) k n (n + 1) ever (risen n (k - 1)) (risen n k)) (sym m) (raises-first n k a b)) in
-    advanced-more law (risen n 0) (risen n (k - 1)) (risen n k) old mid new first second third
+    advanced-more law ever (risen n 0) (risen n (k - 1)) (risen n k) old mid new first second third
     (λ x l. (omega arith, omega arith)) h (f (risen n (k - 1)) (risen n k) ra h.holds)
 
 -- the last step leaves the front of the region's end
-pub advanced-end : (law : Meaning) (from front later : ℕ → ℕ) (old new : Stretch) (before after : Fold)
+pub advanced-end : (law : Meaning) (since from front later : ℕ → ℕ) (old new : Stretch) (before after : Fold)
     → ((x : ℕ) → x < count_of old → (from x ≤ front x) × (front x ≡ later x))
-    → IsAdvanced law from front old new before after → IsAdvanced law from later old new before after
-advanced-end law from front later old new before after e h =
-    advanced-more law from front later old new new before after after
+    → IsAdvanced law since from front old new before after → IsAdvanced law since from later old new before after
+advanced-end law since from front later old new before after e h =
+    advanced-more law since from front later old new new before after after
     (λ x l. let p : from x ≤ front x = (e x l).0 in let q : front x ≡ later x = (e x l).1 in (p, omega arith)) h
-    (advanced-none law front later new after h.holds (λ x l. let c : count_of new ≡ count_of old = h.same.count_is in (e x (omega arith)).1))
+    (advanced-none law since front later new after h.holds (λ x l. let c : count_of new ≡ count_of old = h.same.count_is in (e x (omega arith)).1))

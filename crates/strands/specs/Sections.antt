@@ -6,7 +6,7 @@ use Rattle.envelope.specs.Cells.{AreInOneSpan}
 use Rattle.envelope.specs.Folds.{IsSameFold, Stands, spans_of}
 use Rattle.envelope.specs.declared.folds.Fold.{Fold}
 use Rattle.fronts.specs.Bands.{IsOnMesh}
-use Rattle.fronts.specs.Fronts.{Holds, ever}
+use Rattle.fronts.specs.Fronts.{Holds}
 use Rattle.fronts.specs.Stretches.{AreSamePlaces, count_of}
 use Rattle.fronts.specs.declared.stretches.Stretch.{Stretch}
 use Rattle.strands.specs.Marks.{Marks, is_between, marked, or_marked}
@@ -25,11 +25,10 @@ NotesInside stretch fold = AreInOneSpan (spans_of fold) (stretch.number + 1) (co
 
 -- the stretch and the fold are taken from one front to a later one: the stretch holds the points
 -- behind it, and the fold was told all that lies between
-pub record IsAdvanced (law : Meaning) (front later : ℕ
-    → ℕ) (old new : Stretch) (before after : Fold)
-    : Type 0 where
+pub record IsAdvanced (law : Meaning) (since front later : ℕ → ℕ) (old new : Stretch)
+    (before after : Fold) : Type 0 where
   pub same : AreSamePlaces old new
   pub same_fold : IsSameFold before after
-  pub holds : Holds law ever later new
+  pub holds : Holds law since later new
   pub stands : (marks : Marks) → Stands before (marked law marks)
       → Stands after (marked law (or_marked marks (is_between old front later)))

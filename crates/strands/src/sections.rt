@@ -28,7 +28,7 @@ pub fn advance<L: Law>(
         Raises step (from_ends (count_of stretch.old - 1)) low high (count_of stretch.old) ever
         front later →
         Holds (L.meaning law.now) ever front stretch.old →
-        IsAdvanced (L.meaning law.now) front later stretch.old stretch.new fold.old fold.new }
+        IsAdvanced (L.meaning law.now) ever front later stretch.old stretch.new fold.old fold.new }
 {
     numbers_tell_places();
     stands_for_equal_maps();
@@ -43,7 +43,7 @@ pub fn advance_start<L: Law>(law: &L, stretch: &mut Stretch, fold: &mut Fold)
     requires holds { let n = count_of stretch.old - 1 in
         Holds (L.meaning law.now) ever (risen n 0) stretch.old }
     ensures { let n = count_of stretch.old - 1 in
-        IsAdvanced (L.meaning law.now) (risen n 0) (tent 0 n)
+        IsAdvanced (L.meaning law.now) ever (risen n 0) (tent 0 n)
         stretch.old stretch.new fold.old fold.new }
 {
     stands_for_equal_maps();
@@ -70,7 +70,7 @@ pub fn advance_region<L: Law>(
     requires holds { let n = count_of stretch.old - 1 in
         Holds (L.meaning law.now) ever (loaded start window n) stretch.old }
     ensures { let n = count_of stretch.old - 1 in
-        IsAdvanced (L.meaning law.now) (loaded start window n) (tent (start + window) n)
+        IsAdvanced (L.meaning law.now) ever (loaded start window n) (tent (start + window) n)
         stretch.old stretch.new fold.old fold.new }
 {
     stands_for_equal_maps();

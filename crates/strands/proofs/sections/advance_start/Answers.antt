@@ -10,7 +10,7 @@ use Rattle.strands.proofs.sections.advance_start.Goals as goal
 pub loop-k-init : goal.loop-k-init
 loop-k-init g c =
     let n = count_of c.args.stretch.now - 1 in
-    advanced-none (g.L.Law.meaning c.args.law.now) (risen n 0) (risen n (1 - 1))
+    advanced-none (g.L.Law.meaning c.args.law.now) ever (risen n 0) (risen n (1 - 1))
     c.args.stretch.now c.args.fold.now c.requires.holds (λ x l. omega arith)
 
 pub advance-requires-clause-line : goal.advance-requires-clause-line
@@ -31,7 +31,7 @@ loop-k-preserved g c =
     let size : count_of old ≡ n + 1 = omega (arith, c.requires.line.long) in
     let j : k ≡ k + 1 - 1 = omega arith in
     let last : c.count-last.result - 1 ≡ n = omega (arith, c.count-last.ensures) in
-    subst (λ i. IsAdvanced law (risen n 0) (risen n i) old new c.args.fold.now c.advance.new.fold) j
+    subst (λ i. IsAdvanced law ever (risen n 0) (risen n i) old new c.args.fold.now c.advance.new.fold) j
     (start-more law n k old c.loop-k.stretch new c.args.fold.now c.loop-k.fold c.advance.new.fold size
     (omega (arith, c.loop-k.auto.k)) (omega (arith, c.loop-k-test.true, last)) c.loop-k.invariant
     (λ front later ra h. c.advance.ensures front later
@@ -41,6 +41,6 @@ pub returns : goal.returns
 returns g c =
     let n = count_of c.args.stretch.now - 1 in
     let last : c.count-last.result - 1 ≡ n = omega (arith, c.count-last.ensures) in
-    advanced-end (g.L.Law.meaning c.args.law.now) (risen n 0) (risen n (c.loop-k.k - 1)) (tent 0 n)
+    advanced-end (g.L.Law.meaning c.args.law.now) ever (risen n 0) (risen n (c.loop-k.k - 1)) (tent 0 n)
     c.args.stretch.now c.loop-k.stretch c.args.fold.now c.loop-k.fold
     (λ x l. (omega arith, omega (arith, c.requires.line.long, c.loop-k-test.false, last))) c.loop-k.invariant

@@ -1,5 +1,5 @@
 use Rattle.std.proofs.Common.{◌-◌}
-use Rattle.fronts.specs.Fronts.{risen}
+use Rattle.fronts.specs.Fronts.{ever, risen}
 use Rattle.fronts.specs.Stretches.{count_of}
 use Rattle.strands.specs.Sections.{IsAdvanced}
 use Rattle.strands.proofs.sections.advance_start.Given as goal
@@ -7,4 +7,4 @@ use Rattle.strands.proofs.sections.advance_start.Given as goal
 abbrev pub invariant-loop-k : goal.invariant-loop-k
 invariant-loop-k g l =
     let n = count_of l.fn.stretch - 1 in
-    IsAdvanced (g.L.Law.meaning l.law) (risen n 0) (risen n (l.k - 1)) l.fn.stretch l.stretch l.fn.fold l.fold
+    IsAdvanced (g.L.Law.meaning l.law) ever (risen n 0) (risen n (l.k - 1)) l.fn.stretch l.stretch l.fn.fold l.fold
