@@ -2,3 +2,4 @@ mod Advancing
 mod Handing
 mod Loading
 mod Marking
+mod Seams

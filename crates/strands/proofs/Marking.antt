@@ -16,10 +16,10 @@ use Rattle.envelope.specs.Notings.Noting.{OfPoint}
 use Rattle.envelope.specs.Rows.{noting_at, rows_noted}
 use Rattle.fronts.specs.Bands.{from_ends}
 use Rattle.fronts.specs.Fronts.{Holds, Raises, ever, spot}
-use Rattle.fronts.specs.Noted.{band_noted}
+use Rattle.fronts.specs.Noted.{band_noted, run_noted}
 use Rattle.fronts.specs.Stretches.{AreSamePlaces, count_of}
 use Rattle.fronts.specs.declared.stretches.Stretch.{Stretch}
-use Rattle.fronts.proofs.Lining.{IsOutOfBand, band-in, band-out, in-or-out, is-now, value-of, where-is}
+use Rattle.fronts.proofs.Lining.{IsOutOfBand, band-in, band-out, in-or-out, is-now, value-of, run-before, run-in, where-is}
 use Rattle.strands.specs.Marks.{Marks, is_between, marked, or_marked}
 use Rattle.strands.specs.Sections.{IsLine}
 
@@ -191,3 +191,70 @@ agree-marked law band marks more h s k x y a b =
         → (b × (band ≡ r)) ⊎ (c × (band ≡ None)) → y ≡ z
     one r band y z e f (inl h) = let g : band ≡ r = h.1 in cc
     one r band y z e f (inr h) = let g : band ≡ None = h.1 in cc
+
+-- ---- a run of places
+
+run-out : (stretch : Stretch) (step low high : ℕ) (since front later : ℕ → ℕ) (s k : ℕ)
+    → Raises step (λ x. x) low high (count_of stretch) since front later
+    → (k < stretch.number + low) ⊎ (stretch.number + high ≤ k) → is_between stretch front later s k ≡ false
+run-out stretch step low high since front later s k ra h =
+    elim (where-is k stretch.number (stretch.number + count_of stretch)) [
+      | inl a ↦ between-out stretch front later s k (inl a)
+      | inr a ↦ elim a [
+        | inl b ↦ between-out stretch front later s k (inr (inl b))
+        | inr b ↦
+            let x = k - stretch.number in
+            let lo : stretch.number ≤ k = b.0 in
+            let hi : k < stretch.number + count_of stretch = b.1 in
+            let o : (x < low) ⊎ (high ≤ x) = elim h [ inl z ↦ inl (omega arith) | inr z ↦ inr (omega arith) ] in
+            between-out stretch front later s k (inr (inr (apart s (front x) (later x) (ra.others x (omega arith) o))))
+      ]
+    ]
+
+pub split-run : (law : Meaning) (stretch : Stretch) (step low high : ℕ) (since front later : ℕ → ℕ) (s k : ℕ)
+    → ArePlaces → IsLine law stretch → high ≤ count_of stretch
+    → Raises step (λ x. x) low high (count_of stretch) since front later
+    → Holds law since later stretch
+    → IsSplit law (run_noted stretch (step + 1) low high) (is_between stretch front later) s k
+split-run law stretch step low high since front later s k places line inside ra h =
+    let x = k - stretch.number in
+    elim (where-is k (stretch.number + low) (stretch.number + high)) [
+      | inl a ↦ inr (run-out stretch step low high since front later s k ra (inl a), run-before stretch (step + 1) low high s k (inr (inl a)))
+      | inr c ↦ elim c [
+        | inl a ↦ inr (run-out stretch step low high since front later s k ra (inr a), run-before stretch (step + 1) low high s k (inr (inr a)))
+        | inr a ↦
+            let lo : stretch.number + low ≤ k = a.0 in
+            let hi : k < stretch.number + high = a.1 in
+            let b : x < count_of stretch = omega arith in
+            let w : since x ≤ step = (ra.own x b (omega arith) (omega arith)).0 in
+            let f : front x ≡ step = (ra.own x b (omega arith) (omega arith)).1 in
+            let g : later x ≡ step + 1 = ra.raised x b (omega arith) (omega arith) in
+            elim (is-now s (step + 1)) [
+              | inl e ↦ inl (
+                between-in stretch front later s k (omega arith) (omega arith) (omega arith) (omega arith),
+                run-in stretch (step + 1) low high s k e lo hi
+                    ∙ ap (λ y. Some (OfPoint y)) (h.cell (step + 1) x b (omega arith) (omega arith) (omega arith))
+                    ∙ sym (rows-at law stretch (step + 1) k places line (omega arith) (omega arith))
+                    ∙ ap (λ t. rows_noted law t k) (sym e),
+              )
+              | inr e ↦ inr (
+                between-out stretch front later s k (inr (inr (other s step (front x) (later x) e f g))),
+                run-before stretch (step + 1) low high s k (inl e),
+              )
+            ]
+      ]
+    ]
+
+pub same-split-run : (law : Meaning) (old new : Stretch) (step low high : ℕ) (since front later : ℕ → ℕ)
+    → ArePlaces → IsLine law old → AreSamePlaces old new → high ≤ count_of old
+    → Raises step (λ x. x) low high (count_of old) since front later
+    → Holds law since later new → (s k : ℕ)
+    → IsSplit law (run_noted new (step + 1) low high) (is_between old front later) s k
+same-split-run law old new step low high since front later places line same inside ra h s k =
+    let ra' = subst (λ n. Raises step (λ x. x) low high n since front later) (sym same.count_is) ra in
+    let size : count_of new ≡ count_of old = same.count_is in
+    let e = sym (same-between old new front later s k same) in
+    elim (split-run law new step low high since front later s k places (same-line law old new same line) (omega arith) ra' h) [
+      | inl a ↦ inl (e ∙ a.0, a.1)
+      | inr a ↦ inr (e ∙ a.0, a.1)
+    ]

@@ -1,3 +1,4 @@
 pub mod Marks
 pub mod Sections
+pub mod Stations
 pub mod Words

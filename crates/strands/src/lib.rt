@@ -4,6 +4,8 @@
 
 mod blocks;
 mod sections;
+mod stations;
 
 pub use blocks::{load_side, write_side};
 pub use sections::{advance, advance_region, advance_start};
+pub use stations::{advance_run, advance_seam};

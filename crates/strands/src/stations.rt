@@ -1,0 +1,73 @@
+//! The regions of stations: the station itself and its triangle in each section beside it.
+ghost use Rattle.std.specs.Prelude.{◌≡◌, ℕ, ◌+◌, ◌-◌, ◌*◌, ◌/◌, ◌^◌, ◌<◌, ◌≤◌};
+ghost use Rattle.case_model.specs.Meaning.{Meaning};
+ghost use Rattle.envelope.specs.Cells.{AreInOneSpan};
+ghost use Rattle.envelope.specs.Folds.{spans_of};
+ghost use Rattle.fronts.specs.Fronts.{Holds, Raises};
+ghost use Rattle.fronts.specs.Stretches.{count_of};
+ghost use Rattle.strands.specs.Sections.{IsAdvanced, IsLine};
+ghost use Rattle.strands.specs.Stations.{NotesTriangles, seam_since, seam_front};
+
+use case_model::Law;
+use envelope::{Fold, numbers_tell_places, stands_for_equal_maps};
+use fronts::Stretch;
+
+/// Raises the places of a stretch from `low` on and below `high` to the step after `step`, and
+/// notes them.
+pub fn advance_run<L: Law>(
+    law: &L,
+    stretch: &mut Stretch,
+    fold: &mut Fold,
+    step: u64,
+    low: usize,
+    high: usize,
+)
+    requires line { IsLine (L.meaning law.now) stretch.old }
+    requires noted { AreInOneSpan (spans_of fold.old) (stretch.old.number + low) (high - low) }
+    requires room { step + 1 < 2 ^ 64 }
+    requires after_first { 0 < low }
+    requires order { low ≤ high }
+    requires before_last { high < count_of stretch.old }
+    ensures { (since front later : ℕ → ℕ) →
+        Raises step (λ x. x) low high (count_of stretch.old) since front later →
+        Holds (L.meaning law.now) since front stretch.old →
+        IsAdvanced (L.meaning law.now) since front later stretch.old stretch.new fold.old fold.new }
+{
+    numbers_tell_places();
+    stands_for_equal_maps();
+    stretch.step_run(law, step, low, high);
+    stretch.note(fold, step + 1, low, high);
+}
+
+/// A region of a seam, over the window of so many steps after `start`: the blocks of both sections
+/// are loaded, and the seam in the middle of the stretch and its two triangles are computed.
+pub fn advance_seam<L: Law>(
+    law: &L,
+    window: usize,
+    start: u64,
+    stretch: &mut Stretch,
+    fold: &mut Fold,
+)
+    requires line { IsLine (L.meaning law.now) stretch.old }
+    requires noted { NotesTriangles window stretch.old fold.old }
+    requires size { count_of stretch.old ≡ 2 * ((window + 1) / 2) + 1 }
+    requires room { start + window < 2 ^ 64 }
+    requires holds { let since = seam_since window start in
+        Holds (L.meaning law.now) since (seam_front window start 0) stretch.old }
+    ensures { let since = seam_since window start in
+        IsAdvanced (L.meaning law.now) since (seam_front window start 0)
+        (seam_front window start window) stretch.old stretch.new fold.old fold.new }
+{
+    let half = window.div_ceil(2);
+    for k in 0..window {
+        let most = k.min(window - 1 - k);
+        advance_run(
+            law,
+            stretch,
+            fold,
+            start + k as u64,
+            half - most,
+            half + most + 1,
+        );
+    }
+}
