@@ -20,7 +20,7 @@ use Rattle.case_model.specs.declared.meshes.Mesh.{Mesh}
 use Rattle.case_model.specs.declared.meshes.PipeMesh.{PipeMesh}
 use Rattle.std.proofs.lemmas.List.{length-map}
 use Rattle.case_model.specs.PlaceNumbers.{number_of}
-use Rattle.envelope.specs.CellLaws.{within-first}
+use Rattle.envelope.proofs.CellLaws.{within-first}
 use Rattle.envelope.specs.Folds.{IsFoldOf, spans_of}
 use Rattle.envelope.specs.RowFolds.{probe_numbers}
 use Rattle.envelope.specs.declared.folds.Fold.{Fold}
