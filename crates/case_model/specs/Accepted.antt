@@ -1,5 +1,5 @@
--- What an accepted case and its mesh fulfil: numbers within their limits, and the mesh of a division that refuses
--- nothing, in which rows can be computed.
+-- What an accepted case and its mesh fulfil: numbers within their limits, and the mesh of a
+-- division that refuses nothing, in which rows can be computed.
 use Rattle.std.specs.Prelude.{◌≡◌, ◌<◌, length}
 use Rattle.case_model.specs.declared.cases.Case.{Case}
 use Rattle.case_model.specs.declared.meshes.Mesh.{Mesh}

@@ -15,11 +15,13 @@ IsRising (m ∷ numbers) = ((n : ℕ) → IsOneOf numbers n → m ≤ n) × IsRi
 
 -- a set holds no pair beyond so many lines and these numbers
 abbrev pub IsBounded : List ℕ → ℕ → Rules → Type 0
-IsBounded numbers count rules = (line number : ℕ) → IsTrue (rules line number) → (line < count) × IsOneOf numbers number
+IsBounded numbers count rules =
+    (line number : ℕ) → IsTrue (rules line number) → (line < count) × IsOneOf numbers number
 
 abbrev pub AreBounded : List ℕ → ℕ → List Rules → Type 0
 AreBounded numbers count [] = Unit {0}
-AreBounded numbers count (pass ∷ passes) = IsBounded numbers count pass × AreBounded numbers count passes
+AreBounded numbers count (pass ∷ passes) =
+    IsBounded numbers count pass × AreBounded numbers count passes
 
 -- what a search says of a set: none is broken, or the least pair
 abbrev pub LeastOrNone : Rules → Option Refusal → Type 0

@@ -1,5 +1,7 @@
 -- The mesh of a case: its pipes in reaches, the ends at each node, and the numbers of places.
-use Rattle.std.specs.Prelude.{◌≡◌, ◌<◌, ℕ, ◌+◌, ◌==◌, ◌&&◌, not, nat_le, Bool, ℤ, pos, ◌*ℤ◌, ◌-ℤ◌, ◌+ℤ◌, unsigned_abs, int_le, List, [], slice_index_or, length, map, take, sum_by}
+use Rattle.std.specs.Prelude.{◌≡◌, ◌<◌, ℕ, ◌+◌, ◌==◌, ◌&&◌, not, nat_le, Bool, ℤ, pos, ◌*ℤ◌, ◌-ℤ◌}
+use Rattle.std.specs.Prelude.{◌+ℤ◌, unsigned_abs, int_le, List, [], slice_index_or, length, map}
+use Rattle.std.specs.Prelude.{take, sum_by}
 use Rattle.std.specs.List.{range_with_len}
 use Rattle.case_model.specs.declared.cases.Case.{Case}
 use Rattle.case_model.specs.declared.cases.Pipe.{Pipe}
@@ -18,12 +20,14 @@ is_count n = nat_le 2 n && nat_le n 65_536
 -- whether n reaches adjust the wave speed of a pipe by no more than the tolerance, in 1e-3 of it
 unfoldable pub is_adjusted : ℤ → ℤ → ℕ → Pipe → Bool
 is_adjusted dt tolerance n p =
-    int_le (pos (unsigned_abs (p.length *ℤ pos 1_000_000 -ℤ pos n *ℤ p.speed *ℤ dt)) *ℤ pos 1_000) (tolerance *ℤ (pos n *ℤ p.speed *ℤ dt))
+    int_le (pos (unsigned_abs (p.length *ℤ pos 1_000_000 -ℤ pos n *ℤ p.speed *ℤ dt)) *ℤ pos 1_000)
+    (tolerance *ℤ (pos n *ℤ p.speed *ℤ dt))
 
 -- whether an impedance and a friction are within their limits
 unfoldable pub are_accepted : ℤ → ℤ → Bool
 are_accepted b r =
-    int_le (pos 100_000) b && int_le b (pos 10_000_000_000_000) && int_le (pos 0) r && int_le r (pos 100_000_000_000_000_000_000)
+    int_le (pos 100_000) b && int_le b (pos 10_000_000_000_000) && int_le (pos 0) r
+    && int_le r (pos 100_000_000_000_000_000_000)
 
 -- whether a pipe in n reaches has an impedance and a friction that are accepted
 unfoldable pub has_coefficients : ℤ → ℕ → Pipe → Bool
@@ -33,7 +37,8 @@ has_coefficients dt n p = are_accepted (b_of dt n p) (r_of n p)
 -- tolerance, with coefficients within their limits
 abbrev pub is_divided : ℤ → ℤ → Pipe → Bool
 is_divided dt tolerance p =
-    not (p.first == p.last) && is_count (reach_count dt p) && is_adjusted dt tolerance (reach_count dt p) p && has_coefficients dt (reach_count dt p) p
+    not (p.first == p.last) && is_count (reach_count dt p)
+    && is_adjusted dt tolerance (reach_count dt p) p && has_coefficients dt (reach_count dt p) p
 
 -- the same of pipe number p of a case
 unfoldable pub divides : Case → ℕ → Bool
@@ -79,9 +84,11 @@ mesh_of case = record {
 -- the elevation of place i of pipe p, in 1e-6 m: between those of its nodes, by reaches
 abbrev pub elevation : Case → Mesh → ℕ → ℕ → ℤ
 elevation case mesh p i =
-    elevation_between (node_at case (pipe_at case p).first).elevation (node_at case (pipe_at case p).last).elevation i (reaches mesh p)
+    elevation_between (node_at case (pipe_at case p).first).elevation
+    (node_at case (pipe_at case p).last).elevation i (reaches mesh p)
 
--- the vapour head of a place of a pipe, and of a node, in 1e-6 m: the elevation plus the case's vapour head
+-- the vapour head of a place of a pipe, and of a node, in 1e-6 m: the elevation plus the case's
+-- vapour head
 abbrev pub vapour_head : Case → Mesh → ℕ → ℕ → ℤ
 vapour_head case mesh p i = elevation case mesh p i +ℤ case.vapour
 

@@ -1,5 +1,5 @@
--- Courant division of a pipe: its reaches, impedance, friction and elevations, in whole numbers with
--- one rounding rule. After Wylie and Streeter, Fluid Transients in Systems: method of
+-- Courant division of a pipe: its reaches, impedance, friction and elevations, in whole numbers
+-- with one rounding rule. After Wylie and Streeter, Fluid Transients in Systems: method of
 -- characteristics for complex systems, wave speed adjustment.
 use Rattle.std.specs.Prelude.{ℕ, ℤ, pos, ◌+ℤ◌, ◌-ℤ◌, ◌*ℤ◌, unsigned_abs, int_le, if◌then◌else◌}
 use Rattle.fixed_num.specs.Rounding.{rnd}
@@ -20,13 +20,15 @@ adjusted_speed length dt n = rnd (length *ℤ pos 1_000_000) (n *ℤ dt)
 
 -- the characteristic impedance a/(g*A) in 1e-6 s/m2, of length, time step, reaches and area
 unfoldable pub impedance : ℤ → ℤ → ℤ → ℤ → ℤ
-impedance length dt n area = rnd (length *ℤ pos 100_000_000_000_000_000_000) (n *ℤ dt *ℤ pos 980_665 *ℤ area)
+impedance length dt n area =
+    rnd (length *ℤ pos 100_000_000_000_000_000_000) (n *ℤ dt *ℤ pos 980_665 *ℤ area)
 
 -- the friction f*dx/(2*g*D*A^2) of one reach in 1e-12 s2/m5, of friction factor, length, reaches,
 -- diameter and area
 unfoldable pub resistance : ℤ → ℤ → ℤ → ℤ → ℤ → ℤ
 resistance friction length n diameter area =
-    rnd (friction *ℤ length *ℤ pos 100_000_000_000_000_000_000_000) (pos 2 *ℤ pos 980_665 *ℤ n *ℤ diameter *ℤ (area *ℤ area))
+    rnd (friction *ℤ length *ℤ pos 100_000_000_000_000_000_000_000)
+    (pos 2 *ℤ pos 980_665 *ℤ n *ℤ diameter *ℤ (area *ℤ area))
 
 -- a number, or one more than the most where it is over that
 abbrev pub cut : ℤ → ℤ → ℤ

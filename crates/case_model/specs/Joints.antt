@@ -1,5 +1,6 @@
 -- Where the ends of pipes stand among those of the nodes.
-use Rattle.std.specs.Prelude.{◌≡◌, ◌⊎◌, ℕ, ◌<◌, ◌==◌, Bool, true, false, if◌then◌else◌, List, [], length, map, slice_index_or}
+use Rattle.std.specs.Prelude.{◌≡◌, ◌⊎◌, ℕ, ◌<◌, ◌==◌, Bool, true, false, if◌then◌else◌}
+use Rattle.std.specs.Prelude.{List, [], length, map, slice_index_or}
 use Rattle.std.specs.List.{list_any, range_with_len}
 use Rattle.case_model.specs.declared.joints.Joint.{Joint}
 use Rattle.case_model.specs.declared.joints.PipeJoints.{PipeJoints}
@@ -32,7 +33,8 @@ no_joints = record { first = no_joint; last = no_joint }
 abbrev pub side_joint : Bool → PipeJoints → Joint
 side_joint last both = if last then both.last else both.first
 
--- an old joint, or else a new one: the count of nodes stands for the node of an end that no node has
+-- an old joint, or else a new one: the count of nodes stands for the node of an end that no node
+-- has
 abbrev pub or_joint : ℕ → Joint → Joint → Joint
 or_joint nodes old new = if old.node == nodes then new else old
 

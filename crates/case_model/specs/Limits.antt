@@ -1,16 +1,20 @@
--- What a case is whose numbers, counts, tables and references are within the limits of the case text.
-use Rattle.std.specs.Prelude.{◌≡◌, ◌<◌, ◌≤◌, ◌+◌, ◌⊎◌, ℕ, ℤ, pos, neg_ℤ, ◌≤ℤ◌, ◌<ℤ◌, ◌+ℤ◌, unsigned_abs, List, length, slice_index_or, All}
+-- What a case is whose numbers, counts, tables and references are within the limits of the case
+-- text.
+use Rattle.std.specs.Prelude.{◌≡◌, ◌<◌, ◌≤◌, ◌+◌, ◌⊎◌, ℕ, ℤ, pos, neg_ℤ, ◌≤ℤ◌, ◌<ℤ◌, ◌+ℤ◌}
+use Rattle.std.specs.Prelude.{unsigned_abs, List, length, slice_index_or, All}
 use Rattle.case_model.specs.declared.cases.Case.{Case}
 use Rattle.case_model.specs.declared.cases.Friction.{Friction}
 use Rattle.case_model.specs.declared.cases.Friction.TheVariants.{Explicit}
 use Rattle.case_model.specs.declared.cases.Table.{Table}
 use Rattle.case_model.specs.declared.cases.TableKind.{TableKind}
-use Rattle.case_model.specs.declared.cases.TableKind.TheVariants.{Heads, Flows, Openings, Speeds, Curve, Gas}
+use Rattle.case_model.specs.declared.cases.TableKind.TheVariants.{Heads, Flows, Openings, Speeds}
+use Rattle.case_model.specs.declared.cases.TableKind.TheVariants.{Curve, Gas}
 use Rattle.case_model.specs.declared.cases.Value.{Value}
 use Rattle.case_model.specs.declared.cases.Value.TheVariants.{Fixed, ByTable}
 use Rattle.case_model.specs.declared.cases.Node.{Node}
 use Rattle.case_model.specs.declared.cases.NodeKind.{NodeKind}
-use Rattle.case_model.specs.declared.cases.NodeKind.TheVariants.{Reservoir, Junction, Discharge, Inline, Pump, Tank, Vessel}
+use Rattle.case_model.specs.declared.cases.NodeKind.TheVariants.{Reservoir, Junction, Discharge}
+use Rattle.case_model.specs.declared.cases.NodeKind.TheVariants.{Inline, Pump, Tank, Vessel}
 use Rattle.case_model.specs.declared.cases.Pipe.{Pipe}
 use Rattle.case_model.specs.declared.cases.ProbeAt.{ProbeAt}
 use Rattle.case_model.specs.declared.cases.ProbeAt.TheVariants.{OnPipe, OnNode}
@@ -42,7 +46,8 @@ IsEntry Heads e = IsTime e.0 × IsHead e.1
 IsEntry Flows e = IsTime e.0 × IsFlow e.1
 IsEntry Openings e = IsTime e.0 × IsWithin (pos 0) (pos 1_000_000) e.1
 IsEntry Speeds e = IsTime e.0 × IsWithin (pos 0) (pos 2_000_000) e.1
-IsEntry Curve e = IsWithin (pos 0) (pos 1_000_000_000_000) e.0 × IsWithin (pos 0) (pos 100_000_000_000) e.1
+IsEntry Curve e =
+    IsWithin (pos 0) (pos 1_000_000_000_000) e.0 × IsWithin (pos 0) (pos 100_000_000_000) e.1
 IsEntry Gas e = IsVolume e.0 × IsHead e.1
 
 abbrev pub entry_at : List (ℤ × ℤ) → ℕ → ℤ × ℤ
@@ -50,14 +55,17 @@ entry_at points k = slice_index_or points k (pos 0, pos 0)
 
 -- the first numbers rise by at least so much from pair to pair
 abbrev pub RisesBy : ℤ → List (ℤ × ℤ) → Type 0
-RisesBy least points = (k : ℕ) → k + 1 < length points → ((entry_at points k).0 +ℤ least) ≤ℤ (entry_at points (k + 1)).0
+RisesBy least points =
+    (k : ℕ) → k + 1 < length points
+    → ((entry_at points k).0 +ℤ least) ≤ℤ (entry_at points (k + 1)).0
 
 -- the second numbers strictly fall
 abbrev pub Falls : List (ℤ × ℤ) → Type 0
-Falls points = (k : ℕ) → k + 1 < length points → (entry_at points (k + 1)).1 <ℤ (entry_at points k).1
+Falls points =
+    (k : ℕ) → k + 1 < length points → (entry_at points (k + 1)).1 <ℤ (entry_at points k).1
 
--- a table in order: times and volumes strictly rise; a curve begins at the flow 0, its flows rise by
--- at least 1e-6 m3/s and its rises strictly fall; the heads of a gas table strictly fall
+-- a table in order: times and volumes strictly rise; a curve begins at the flow 0, its flows rise
+-- by at least 1e-6 m3/s and its rises strictly fall; the heads of a gas table strictly fall
 abbrev pub IsInOrder : TableKind → List (ℤ × ℤ) → Type 0
 IsInOrder Heads points = RisesBy (pos 1) points
 IsInOrder Flows points = RisesBy (pos 1) points
@@ -110,10 +118,13 @@ IsOpening tables v = IsValue (IsWithin (pos 0) (pos 1_000_000)) Openings tables 
 abbrev pub IsKind : List Table → NodeKind → Type 0
 IsKind tables (Reservoir head) = IsValue IsHead Heads tables head
 IsKind tables (Junction demand start) = IsValue IsFlow Flows tables demand × IsHead start
-IsKind tables (Discharge q0 h0 outlet opening start) = IsValve q0 h0 × IsHead outlet × IsOpening tables opening × IsHead start
-IsKind tables (Inline q0 h0 opening start start2) = IsValve q0 h0 × IsOpening tables opening × IsHead start × IsHead start2
+IsKind tables (Discharge q0 h0 outlet opening start) =
+    IsValve q0 h0 × IsHead outlet × IsOpening tables opening × IsHead start
+IsKind tables (Inline q0 h0 opening start start2) =
+    IsValve q0 h0 × IsOpening tables opening × IsHead start × IsHead start2
 IsKind tables (Pump curve speed start start2) =
-    IsTableOf Curve tables curve × IsValue (IsWithin (pos 0) (pos 2_000_000)) Speeds tables speed × IsHead start × IsHead start2
+    IsTableOf Curve tables curve × IsValue (IsWithin (pos 0) (pos 2_000_000)) Speeds tables speed
+    × IsHead start × IsHead start2
 IsKind tables (Tank area start) = IsWithin (pos 1) (pos 1_000_000_000) area × IsHead start
 IsKind tables (Vessel gas volume) = IsTableOf Gas tables gas × IsVolume volume
 

@@ -20,8 +20,11 @@ pub record Meaning : Type 0 where
 
 -- the start is in range, and of what is in range the law makes only what is in range
 pub record IsMeaning (law : Meaning) : Type 0 where
-  pub inner : (p i : ℕ) (left own right : Point) → IsPoint left → IsPoint own → IsPoint right → IsPoint (law.inner p i left own right)
-  pub node : (k s : ℕ) (own : NodeState) (near : List Point) → IsState own → All IsPoint near → IsState (law.node k s own near)
-  pub ends : (k s : ℕ) (own : NodeState) (near : List Point) → IsState own → All IsPoint near → All IsPoint (law.ends k s own near)
+  pub inner : (p i : ℕ) (left own right : Point) → IsPoint left → IsPoint own → IsPoint right
+      → IsPoint (law.inner p i left own right)
+  pub node : (k s : ℕ) (own : NodeState) (near : List Point) → IsState own → All IsPoint near
+      → IsState (law.node k s own near)
+  pub ends : (k s : ℕ) (own : NodeState) (near : List Point) → IsState own → All IsPoint near
+      → All IsPoint (law.ends k s own near)
   pub start_point : (p i : ℕ) → IsPoint (law.start_point p i)
   pub start_node : (k : ℕ) → IsState (law.start_node k)

@@ -1,4 +1,5 @@
-use Rattle.std.specs.Prelude.{◌≡◌, ℕ, ◌+◌, ◌-◌, ◌^◌, ◌<◌, ◌≤◌, Bool, not, ◌&&◌, ◌==◌, if◌then◌else◌, List, [], length, take, sum_by, pos, slice_index_or}
+use Rattle.std.specs.Prelude.{◌≡◌, ℕ, ◌+◌, ◌-◌, ◌^◌, ◌<◌, ◌≤◌, Bool, not, ◌&&◌, ◌==◌, if◌then◌else◌}
+use Rattle.std.specs.Prelude.{List, [], length, take, sum_by, pos, slice_index_or}
 use Rattle.std.specs.List.{AllByRecursion, list_any, position_or_len}
 use Rattle.case_model.specs.declared.meshes.End.{End}
 use Rattle.case_model.specs.declared.meshes.Mesh.{Mesh}
@@ -43,10 +44,12 @@ places_before mesh p = length mesh.ends + sum_by (λ pipe. pipe.reaches + 1) (ta
 -- a mesh in which rows can be computed: each end is that of one of its pipes, each pipe has an
 -- inner place, and both its ends stand at nodes
 pub record IsMesh (mesh : Mesh) : Type 0 where
-  pub pipes : (k : ℕ) → k < length mesh.ends → AllByRecursion (λ e. e.pipe < length mesh.pipes) (ends_of mesh k)
+  pub pipes : (k : ℕ) → k < length mesh.ends
+      → AllByRecursion (λ e. e.pipe < length mesh.pipes) (ends_of mesh k)
   pub long : (p : ℕ) → p < length mesh.pipes → 2 ≤ reaches mesh p
   pub small : (p : ℕ) → p < length mesh.pipes → reaches mesh p < 2 ^ 32
-  pub found : (p : ℕ) (last : Bool) → p < length mesh.pipes → end_node mesh p last < length mesh.ends
+  pub found : (p : ℕ) (last : Bool) → p < length mesh.pipes
+      → end_node mesh p last < length mesh.ends
 
 -- places are numbered without a gap: the nodes, then the places of each pipe, in file order
 pub record IsNumbered (mesh : Mesh) : Type 0 where

@@ -7,4 +7,5 @@ abbrev pub fields_of : List ℕ → Inside
 fields_of xs = record { bytes = padded xs; len = length xs }
 
 pub fields_back : (n : Inside) → IsPadded n.bytes n.len → fields_of (take n.len n.bytes) ≡ n
-fields_back n h = let b = padded_back n.bytes n.len h in let l = length_back n.bytes n.len h in rw (b, l) refl
+fields_back n h =
+    let b = padded_back n.bytes n.len h in let l = length_back n.bytes n.len h in rw (b, l) refl

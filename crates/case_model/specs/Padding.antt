@@ -1,6 +1,7 @@
 use Rattle.std.specs.Prelude.{◌≡◌, ℕ, ◌-◌, ◌≤◌, ◌++◌, List, length, drop, take, replicate}
 use Rattle.std.proofs.Common.{arith, length-append}
-use Rattle.std.proofs.lemmas.List.{take-append-drop, length-take-le, drop-replicate, length-replicate}
+use Rattle.std.proofs.lemmas.List.{take-append-drop, length-take-le, drop-replicate}
+use Rattle.std.proofs.lemmas.List.{length-replicate}
 use Rattle.std.proofs.Math.Seq.{drop-append_seam}
 
 -- 32 bytes of which those from `len` on are 0
@@ -21,11 +22,18 @@ padded_back bytes len h =
     rw (length_back bytes len h, ← h.rest) (take-append-drop len bytes)
 
 -- zeros behind at most 32 bytes
-pub padded_new : (bytes : List ℕ) → length bytes ≤ 32 → IsPadded (bytes ++ drop (length bytes) (replicate 32 0)) (length bytes)
+pub padded_new : (bytes : List ℕ) → length bytes ≤ 32
+    → IsPadded (bytes ++ drop (length bytes) (replicate 32 0)) (length bytes)
 padded_new bytes h =
-    let z : drop (length bytes) (replicate 32 0) ≡ replicate (32 - length bytes) 0 = drop-replicate {X = ℕ} (length bytes) 32 0 in
+    let z : drop (length bytes) (replicate 32 0) ≡ replicate (32 - length bytes) 0 =
+    drop-replicate {X = ℕ} (length bytes) 32 0 in
     record {
-      whole = rw z (omega (arith, length-append bytes (replicate (32 - length bytes) 0), length-replicate {A = ℕ} (32 - length bytes) 0));
+      whole =
+          rw z (omega (
+            arith,
+            length-append bytes (replicate (32 - length bytes) 0),
+            length-replicate {A = ℕ} (32 - length bytes) 0,
+          ));
       few = h;
       rest = rw (drop-append_seam bytes (drop (length bytes) (replicate 32 0))) z;
     }

@@ -12,7 +12,18 @@ use Rattle.case_model.specs.declared.cases.ProbeAt.TheVariants.{OnPipe}
 
 -- what stands for a part that the case doesn't have
 abbrev pub no_pipe : Pipe
-no_pipe = record { name = []; line = 0; first = 0; last = 0; length = pos 0; diameter = pos 0; speed = pos 0; friction = pos 0; flow = pos 0 }
+no_pipe =
+    record {
+      name = [];
+      line = 0;
+      first = 0;
+      last = 0;
+      length = pos 0;
+      diameter = pos 0;
+      speed = pos 0;
+      friction = pos 0;
+      flow = pos 0;
+    }
 
 abbrev pub no_node : Node
 no_node = record { name = []; line = 0; elevation = pos 0; kind = Reservoir (Fixed (pos 0)) }

@@ -1,5 +1,7 @@
--- Places of the mesh and their numbers: the nodes in file order, then places 0 to N of each pipe in file order.
-use Rattle.std.specs.Prelude.{ℕ, ◌+◌, ◌-◌, ◌<◌, ◌≤◌, nat_le, nat_lt, if◌then◌else◌, List, [], ◌∷◌, length}
+-- Places of the mesh and their numbers: the nodes in file order, then places 0 to N of each pipe in
+-- file order.
+use Rattle.std.specs.Prelude.{ℕ, ◌+◌, ◌-◌, ◌<◌, ◌≤◌, nat_le, nat_lt, if◌then◌else◌, List, [], ◌∷◌}
+use Rattle.std.specs.Prelude.{length}
 use Rattle.case_model.specs.declared.cases.ProbeAt.{ProbeAt}
 use Rattle.case_model.specs.declared.cases.ProbeAt.TheVariants.{OnPipe, OnNode}
 use Rattle.case_model.specs.declared.meshes.Mesh.{Mesh}
@@ -25,4 +27,5 @@ place_among pipe (p ∷ ps) k =
 -- the place of a number
 unfoldable pub place_at : Mesh → ℕ → ProbeAt
 place_at mesh k =
-    if nat_lt k (length mesh.ends) then OnNode k else place_among 0 mesh.pipes (k - length mesh.ends)
+    if nat_lt k (length mesh.ends) then OnNode k
+    else place_among 0 mesh.pipes (k - length mesh.ends)

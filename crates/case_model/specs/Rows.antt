@@ -1,4 +1,5 @@
-use Rattle.std.specs.Prelude.{ℕ, zero, suc, ◌+◌, ◌-◌, Bool, true, false, ◌==◌, if◌then◌else◌, List, length, map, slice_index_or}
+use Rattle.std.specs.Prelude.{ℕ, zero, suc, ◌+◌, ◌-◌, Bool, true, false, ◌==◌, if◌then◌else◌, List}
+use Rattle.std.specs.Prelude.{length, map, slice_index_or}
 use Rattle.std.specs.List.{range_with_len}
 use Rattle.case_model.specs.declared.meshes.Mesh.{Mesh}
 use Rattle.case_model.specs.declared.points.Point.{Point}
@@ -23,7 +24,8 @@ node_ends law s before k = law.ends k s (before.state k) (near law.mesh before k
 -- the point of an end of pipe p at step s: that which its node gives it
 unfoldable pub end_point : Meaning → ℕ → Row → ℕ → Bool → Point
 end_point law s before p last =
-    slice_index_or (node_ends law s before (end_node law.mesh p last)) (end_index law.mesh p last) Bad
+    slice_index_or (node_ends law s before (end_node law.mesh p last))
+    (end_index law.mesh p last) Bad
 
 -- the row of step s, made of the row before alone
 unfoldable pub next : Meaning → ℕ → Row → Row

@@ -9,9 +9,10 @@ use Rattle.case_model.specs.Meaning.{Meaning}
 abbrev pub point_at : List Point → ℕ → Point
 point_at points k = slice_index_or points k Bad
 
--- the points of `count` inner places of pipe p from place `first` on, of the points one step earlier from the place
--- before the first on
+-- the points of `count` inner places of pipe p from place `first` on, of the points one step
+-- earlier from the place before the first on
 unfoldable pub run_of : Meaning → ℕ → ℕ → List Point → ℕ → List Point
 run_of law p first before count =
-    map (λ k. law.inner p (first + k) (point_at before k) (point_at before (k + 1)) (point_at before (k + 2)))
+    map (λ k. law.inner p (first + k) (point_at before k) (point_at before (k + 1))
+    (point_at before (k + 2)))
     (range_with_len 0 count)

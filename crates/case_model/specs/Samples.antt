@@ -1,12 +1,14 @@
 -- Samples of probes, and envelopes of places, over the rows of a law.
-use Rattle.std.specs.Prelude.{◌≡◌, ◌≢◌, ℕ, ◌<◌, ◌≤◌, ◌%◌, ◌==◌, ◌&&◌, nat_le, ℤ, pos, ◌≤ℤ◌, Option, Some, None, IfSome, if◌then◌else◌}
+use Rattle.std.specs.Prelude.{◌≡◌, ◌≢◌, ℕ, ◌<◌, ◌≤◌, ◌%◌, ◌==◌, ◌&&◌, nat_le, ℤ, pos, ◌≤ℤ◌, Option}
+use Rattle.std.specs.Prelude.{Some, None, IfSome, if◌then◌else◌}
 use Rattle.case_model.specs.declared.cases.Case.{Case}
 use Rattle.case_model.specs.declared.cases.ProbeAt.{ProbeAt}
 use Rattle.case_model.specs.declared.cases.ProbeAt.TheVariants.{OnPipe, OnNode}
 use Rattle.case_model.specs.declared.points.Point.{Point}
 use Rattle.case_model.specs.declared.points.Point.TheVariants.{Good, Bad}
 use Rattle.case_model.specs.declared.states.NodeState.{NodeState}
-use Rattle.case_model.specs.declared.states.NodeState.TheVariants.{Good as GoodState, Bad as BadState}
+use Rattle.case_model.specs.declared.states.NodeState.TheVariants.{Good as GoodState}
+use Rattle.case_model.specs.declared.states.NodeState.TheVariants.{Bad as BadState}
 use Rattle.case_model.specs.Meaning.{Meaning}
 use Rattle.case_model.specs.Rows.{Row, row}
 
@@ -33,7 +35,8 @@ taken_at row (OnNode node) = node_sample (row.state node)
 
 -- the sample of a probe: at the steps 0, every, 2*every .. up to the last
 unfoldable pub sample : Meaning → Case → ProbeAt → ℕ → Option Sample
-sample law case at step = if (step % case.every == 0) && nat_le step case.steps then taken_at (row law step) at else None
+sample law case at step =
+    if (step % case.every == 0) && nat_le step case.steps then taken_at (row law step) at else None
 
 abbrev pub head_of : Option Sample → Option ℤ
 head_of (Some s) = Some s.h
@@ -50,7 +53,8 @@ head_at law at step = head_of (taken_at (row law step) at)
 abbrev pub volume_at : Meaning → ProbeAt → ℕ → Option ℤ
 volume_at law at step = volume_of (taken_at (row law step) at)
 
--- a value that stands at a step up to the last and is passed at none of them; the first step at which it stands
+-- a value that stands at a step up to the last and is passed at none of them; the first step at
+-- which it stands
 pub record IsGreatest (value : ℕ → Option ℤ) (last : ℕ) (most : ℤ) (step : ℕ) : Type 0 where
   pub within : step ≤ last
   pub stands : value step ≡ Some most
@@ -65,7 +69,8 @@ pub record IsSmallest (value : ℕ → Option ℤ) (last : ℕ) (least : ℤ) (s
   pub first : (s : ℕ) → s < step → value s ≢ Some least
 
 -- the envelope of a place over the steps 0 to the last
-pub record IsEnvelope (law : Meaning) (at : ProbeAt) (last : ℕ) (max : ℤ) (max_step : ℕ) (min : ℤ) (min_step : ℕ) (volume : ℤ) (volume_step : ℕ) : Type 0 where
+pub record IsEnvelope (law : Meaning) (at : ProbeAt) (last : ℕ) (max : ℤ) (max_step : ℕ) (min : ℤ)
+    (min_step : ℕ) (volume : ℤ) (volume_step : ℕ) : Type 0 where
   pub greatest_head : IsGreatest (head_at law at) last max max_step
   pub least_head : IsSmallest (head_at law at) last min min_step
   pub greatest_volume : IsGreatest (volume_at law at) last volume volume_step

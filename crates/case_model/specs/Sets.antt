@@ -1,5 +1,6 @@
 -- Sets of broken rules as tests, and the refusal that passes of them give.
-use Rattle.std.specs.Prelude.{ℕ, ◌<◌, ◌≤◌, ◌≡◌, ◌⊎◌, ◌==◌, ◌&&◌, ◌||◌, Bool, IsTrue, Option, Some, None, List, [], ◌∷◌}
+use Rattle.std.specs.Prelude.{ℕ, ◌<◌, ◌≤◌, ◌≡◌, ◌⊎◌, ◌==◌, ◌&&◌, ◌||◌, Bool, IsTrue, Option, Some}
+use Rattle.std.specs.Prelude.{None, List, [], ◌∷◌}
 use Rattle.std.specs.List.{list_any, range_with_len}
 
 -- which rules are broken, as pairs of a line and a number
@@ -19,10 +20,12 @@ abbrev pub AreEmpty : List Rules → Type 0
 AreEmpty [] = Unit {0}
 AreEmpty (pass ∷ passes) = IsEmpty pass × AreEmpty passes
 
--- the least pair of the first pass that has one: a pass is judged only where the earlier ones are empty
+-- the least pair of the first pass that has one: a pass is judged only where the earlier ones are
+-- empty
 abbrev pub IsFirst : List Rules → ℕ → ℕ → Type 0
 IsFirst [] line number = ⊥
-IsFirst (pass ∷ passes) line number = IsLeast pass line number ⊎ (IsEmpty pass × IsFirst passes line number)
+IsFirst (pass ∷ passes) line number =
+    IsLeast pass line number ⊎ (IsEmpty pass × IsFirst passes line number)
 
 -- the rules that one item breaks, all on its line
 abbrev pub on_line : ℕ → (ℕ → Bool) → Rules
@@ -38,4 +41,5 @@ any_below rules n line number = list_any (λ k. rules k line number) (range_with
 -- a number is the least that passes a test, or none does
 abbrev pub FindsLeast : (ℕ → Bool) → Option ℕ → Type 0
 FindsLeast breaks None = (n : ℕ) → IsTrue (breaks n) → ⊥
-FindsLeast breaks (Some number) = IsTrue (breaks number) × ((n : ℕ) → IsTrue (breaks n) → number ≤ n)
+FindsLeast breaks (Some number) =
+    IsTrue (breaks number) × ((n : ℕ) → IsTrue (breaks n) → number ≤ n)

@@ -1,4 +1,5 @@
-use Rattle.std.specs.Prelude.{◌≡◌, ◌≢◌, ℕ, ℤ, pos, ◌+ℤ◌, ◌-ℤ◌, List, [], ◌∷◌, unsigned_abs, Option, Some, None}
+use Rattle.std.specs.Prelude.{◌≡◌, ◌≢◌, ℕ, ℤ, pos, ◌+ℤ◌, ◌-ℤ◌, List, [], ◌∷◌, unsigned_abs, Option}
+use Rattle.std.specs.Prelude.{Some, None}
 use Rattle.case_model.specs.declared.points.Point.{Point}
 use Rattle.case_model.specs.declared.points.Point.TheVariants.{Good, Bad}
 use Rattle.case_model.specs.Range.{IsPoint, point_of}
@@ -15,7 +16,8 @@ words_of Bad = 0 ∷ 0 ∷ 0 ∷ 0 ∷ []
 -- the Good point of these words, or Bad where no Good point has them
 unfoldable pub point_with : ℕ → ℕ → ℕ → ℕ → Point
 point_with head up down volume =
-    point_of (pos head -ℤ pos 10_000_000_000_000) (pos up -ℤ pos 10_000_000_000_000) (pos down -ℤ pos 10_000_000_000_000) (pos volume)
+    point_of (pos head -ℤ pos 10_000_000_000_000) (pos up -ℤ pos 10_000_000_000_000)
+    (pos down -ℤ pos 10_000_000_000_000) (pos volume)
 
 -- a point in range has these words, or none is told and no such point has them
 abbrev pub TellsPoint : List ℕ → Option Point → Type 0

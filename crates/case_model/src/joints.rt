@@ -85,7 +85,8 @@ fn join_end(joints: &mut [PipeJoints], nodes: usize, end: &End, joint: Joint)
     ensures each { length joints.new ≡ length joints.old }
     ensures own { end.now.pipe < length joints.old →
         slice_index_or joints.new end.now.pipe no_joints
-        ≡ joined_with nodes end.now.at_last joint (slice_index_or joints.old end.now.pipe no_joints) }
+        ≡ joined_with nodes end.now.at_last joint
+        (slice_index_or joints.old end.now.pipe no_joints) }
     ensures others { (p : ℕ) → p ≢ end.now.pipe →
         slice_index_or joints.new p no_joints ≡ slice_index_or joints.old p no_joints }
 {

@@ -24,8 +24,8 @@ pub trait Law: Sync {
         ensures { result ≡ (meaning self.now).inner pipe place left.now own.now right.now };
 
     /// The points of a run of inner places of a pipe, from place `first` on, of the points one step
-    /// earlier: `before` has the point beside the first place, those of the run, and the point beside
-    /// the last.
+    /// earlier: `before` has the point beside the first place, those of the run, and the point
+    /// beside the last.
     fn inner_run(&self, pipe: u32, first: u32, before: &[Point], now: &mut [Point])
         requires on_mesh { pipe < length (meaning self.now).mesh.pipes }
         requires after_first { 0 < first }

@@ -39,9 +39,11 @@ impl<T> List<T> {
 
     /// The items, lent for writing.
     pub fn as_mut_slice(&mut self) -> &mut [T]
-        ensures* writes_back { sem 𝓛 (Lends (the_row T.row) (Array T.row 0) self.entry result (rewritten self.old)) }
+        ensures* writes_back { sem 𝓛
+            (Lends (the_row T.row) (Array T.row 0) self.entry result (rewritten self.old)) }
         ensures value { result.now ≡ self.old }
-        ensures same_length { (items : Items T) → length items ≡ length self.old → rewritten self.old items ≡ items }
+        ensures same_length { (items : Items T) → length items ≡ length self.old →
+            rewritten self.old items ≡ items }
     {
         self.items.as_mut_slice()
     }

@@ -1,8 +1,11 @@
 //! The range rule of points and states.
 ghost use Rattle.std.specs.Prelude.{◌≡◌, ℤ};
-ghost use Rattle.case_model.specs.declared.points.Point.TheVariants.{Good as GoodPoint, Bad as BadPoint};
-ghost use Rattle.case_model.specs.declared.states.NodeState.TheVariants.{Good as GoodState, Bad as BadState};
-ghost use Rattle.case_model.specs.Range.{InRange, InStateRange, IsPoint, IsState, point_of as point_from, state_of as state_from};
+ghost use Rattle.case_model.specs.declared.points.Point.TheVariants.{Good as GoodPoint};
+ghost use Rattle.case_model.specs.declared.points.Point.TheVariants.{Bad as BadPoint};
+ghost use Rattle.case_model.specs.declared.states.NodeState.TheVariants.{Good as GoodState};
+ghost use Rattle.case_model.specs.declared.states.NodeState.TheVariants.{Bad as BadState};
+ghost use Rattle.case_model.specs.Range.{InRange, InStateRange, IsPoint, IsState};
+ghost use Rattle.case_model.specs.Range.{point_of as point_from, state_of as state_from};
 
 use crate::{NodeState, Point};
 
@@ -53,7 +56,8 @@ pub fn state_of(h: i128, v: i128, g: i128) -> NodeState
 /// The law of the range rule: a point or a state of numbers is Good exactly where they are in
 /// range, and has these numbers.
 pub fn good_is_in_range()
-    ensures point { (h qu qd v : ℤ) → InRange h qu qd v → point_from h qu qd v ≡ GoodPoint h qu qd v }
+    ensures point { (h qu qd v : ℤ) → InRange h qu qd v →
+        point_from h qu qd v ≡ GoodPoint h qu qd v }
     ensures no_point { (h qu qd v : ℤ) → (InRange h qu qd v → ⊥) → point_from h qu qd v ≡ BadPoint }
     ensures state { (h v g : ℤ) → InStateRange h v g → state_from h v g ≡ GoodState h v g }
     ensures no_state { (h v g : ℤ) → (InStateRange h v g → ⊥) → state_from h v g ≡ BadState }

@@ -1,5 +1,6 @@
 -- Texts that spell numbers: a sign or none, digits, and perhaps a point with digits.
-use Rattle.std.specs.Prelude.{ℕ, ℤ, pos, neg_ℤ, ◌+◌, ◌-◌, ◌*◌, ◌^◌, ◌==◌, ◌≡◌, ◌⊎◌, if◌then◌else◌, nat_lt, true, List, [], ◌∷◌, ◌++◌, length, Result, Ok, Err}
+use Rattle.std.specs.Prelude.{ℕ, ℤ, pos, neg_ℤ, ◌+◌, ◌-◌, ◌*◌, ◌^◌, ◌==◌, ◌≡◌, ◌⊎◌, nat_lt}
+use Rattle.std.specs.Prelude.{if◌then◌else◌, true, List, [], ◌∷◌, ◌++◌, length, Result, Ok, Err}
 use Rattle.fixed_num.specs.Decimal.{are_digits, digits_number}
 use Rattle.fixed_num.specs.declared.decimal.NumberFault.{NumberFault}
 use Rattle.fixed_num.specs.declared.decimal.NumberFault.TheVariants.{Places, Large}
@@ -13,8 +14,8 @@ abbrev pub IsTail : List ℕ → List ℕ → Type 0
 IsTail tail fraction =
     ((tail ≡ []) × (fraction ≡ [])) ⊎ ((tail ≡ 46 ∷ fraction) × (are_digits fraction ≡ true))
 
--- a text spells a number by these parts: a sign or none, one or more digits, and perhaps a point with
--- one or more digits
+-- a text spells a number by these parts: a sign or none, one or more digits, and perhaps a point
+-- with one or more digits
 pub record IsSpelled (text sign whole fraction : List ℕ) : Type 0 where
   pub tail : List ℕ
   pub text_is : text ≡ sign ++ whole ++ tail

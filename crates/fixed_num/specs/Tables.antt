@@ -1,5 +1,7 @@
 -- Integer roots, and the value of a table of points between its points.
-use Rattle.std.specs.Prelude.{◌≡◌, ℕ, ◌+◌, ◌-◌, ◌*◌, ◌<◌, ◌≤◌, ℤ, pos, ◌+ℤ◌, ◌-ℤ◌, ◌*ℤ◌, ◌≤ℤ◌, ◌<ℤ◌, int_lt, unsigned_abs, if◌then◌else◌, List, [], ◌∷◌, length, slice_index_or}
+use Rattle.std.specs.Prelude.{◌≡◌, ℕ, ◌+◌, ◌-◌, ◌*◌, ◌<◌, ◌≤◌, if◌then◌else◌}
+use Rattle.std.specs.Prelude.{ℤ, pos, ◌+ℤ◌, ◌-ℤ◌, ◌*ℤ◌, ◌≤ℤ◌, ◌<ℤ◌, int_lt, unsigned_abs}
+use Rattle.std.specs.Prelude.{List, [], ◌∷◌, length, slice_index_or}
 use Rattle.fixed_num.specs.Rounding.{rnd}
 
 -- x is the greatest whole number whose square is at most n
@@ -14,7 +16,9 @@ entry_at points k = slice_index_or points k (pos 0, pos 0)
 
 -- the first numbers strictly rise
 abbrev pub Rises : List (ℤ × ℤ) → Type 0
-Rises points = (k : ℕ) → k + 1 < length points → ((entry_at points k).0 +ℤ pos 1) ≤ℤ (entry_at points (k + 1)).0
+Rises points =
+    (k : ℕ) → k + 1 < length points
+    → ((entry_at points k).0 +ℤ pos 1) ≤ℤ (entry_at points (k + 1)).0
 
 -- the value at t on the line from one point to the next
 unfoldable pub on_line : ℤ × ℤ → ℤ × ℤ → ℤ → ℤ
@@ -33,8 +37,10 @@ interp (from ∷ to ∷ points) t =
 -- x is the value of a table at t
 pub record IsInterpolated (points : List (ℤ × ℤ)) (t x : ℤ) : Type 0 where
   pub before : t ≤ℤ (entry_at points 0).0 → x ≡ (entry_at points 0).1
-  pub after : (entry_at points (length points - 1)).0 ≤ℤ t → x ≡ (entry_at points (length points - 1)).1
-  pub between : (k : ℕ) → k + 1 < length points → (entry_at points k).0 ≤ℤ t → t <ℤ (entry_at points (k + 1)).0
+  pub after : (entry_at points (length points - 1)).0 ≤ℤ t
+      → x ≡ (entry_at points (length points - 1)).1
+  pub between : (k : ℕ) → k + 1 < length points
+      → (entry_at points k).0 ≤ℤ t → t <ℤ (entry_at points (k + 1)).0
       → x ≡ on_line (entry_at points k) (entry_at points (k + 1)) t
 
 -- a number within these limits

@@ -1,4 +1,5 @@
-use Rattle.std.specs.Prelude.{take, drop, length, ℕ, zero, suc, ◌+◌, ◌/◌, ◌%◌, ◌^◌, List, [], ◌∷◌, ◌++◌, ℤ, pos, negsuc, unsigned_abs}
+use Rattle.std.specs.Prelude.{take, drop, length, ℕ, zero, suc, ◌+◌, ◌/◌, ◌%◌, ◌^◌}
+use Rattle.std.specs.Prelude.{List, [], ◌∷◌, ◌++◌, ℤ, pos, negsuc, unsigned_abs}
 use Rattle.std.specs.Fmt.{decimal}
 
 -- the last k digits of a number
@@ -18,7 +19,9 @@ fraction_text (suc k) n = 46 ∷ last_digits (suc k) n
 
 -- a number in the unit 10 ^ -places
 unfoldable pub written : ℕ → ℤ → List ℕ
-written places value = sign value ++ decimal (unsigned_abs value / 10 ^ places) ++ fraction_text places (unsigned_abs value)
+written places value =
+    sign value ++ decimal (unsigned_abs value / 10 ^ places)
+    ++ fraction_text places (unsigned_abs value)
 
 -- a list with a text put over it from a place on
 abbrev pub placed : ℕ → List ℕ → List ℕ → List ℕ

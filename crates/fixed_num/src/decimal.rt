@@ -1,8 +1,10 @@
 //! Numbers as decimal text: reading.
-ghost use Rattle.std.specs.Prelude.{◌≡◌, ◌+◌, ◌-◌, ◌*◌, ◌^◌, ◌<◌, ◌≤◌, ◌&&◌, ◌⊎◌, min, ℕ, ℤ, pos, neg_ℤ, unsigned_abs, List, length, IfOk, Err};
+ghost use Rattle.std.specs.Prelude.{◌≡◌, ◌+◌, ◌-◌, ◌*◌, ◌^◌, ◌<◌, ◌≤◌, ◌&&◌, ◌⊎◌, min};
+ghost use Rattle.std.specs.Prelude.{ℕ, ℤ, pos, neg_ℤ, unsigned_abs, List, length, IfOk, Err};
 ghost use Rattle.std.specs.Char.{is_ascii_digit};
 ghost use Rattle.std.specs.List.{fold, list_all, position_or_len};
-ghost use Rattle.fixed_num.specs.Decimal.{push_digit, is_point, are_digits, scaled, sized, parted, capped, size_of, signed_by, number_of};
+ghost use Rattle.fixed_num.specs.Decimal.{push_digit, is_point, are_digits, scaled, sized};
+ghost use Rattle.fixed_num.specs.Decimal.{parted, capped, size_of, signed_by, number_of};
 ghost use Rattle.fixed_num.specs.Spelled.{IsSpelled, HasSpelling, spelled_number};
 ghost use Rattle.fixed_num.specs.declared.decimal.NumberFault.TheVariants.{Spelling};
 

@@ -37,7 +37,8 @@ pub fn interp(table: &[(i64, i64)], t: i64) -> i64
     requires seconds { All (λ e. unsigned_abs e.1 ≤ 1_000_000_000_000_000) table.now }
     ensures value { result ≡ interpolated table.now t }
     ensures point { IsInterpolated table.now t result }
-    ensures within { (low high : ℤ) → All (λ e. IsBetween low high e.1) table.now → IsBetween low high result }
+    ensures within { (low high : ℤ)
+        → All (λ e. IsBetween low high e.1) table.now → IsBetween low high result }
 {
     value_at(table, t)
 }

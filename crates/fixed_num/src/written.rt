@@ -1,5 +1,6 @@
 //! Numbers as decimal text: writing.
-ghost use Rattle.std.specs.Prelude.{◌≡◌, ◌+◌, ◌/◌, ◌≤◌, ◌<◌, ◌^◌, ◌++◌, length, take, drop, unsigned_abs, Ok};
+ghost use Rattle.std.specs.Prelude.{◌≡◌, ◌+◌, ◌/◌, ◌≤◌, ◌<◌, ◌^◌, ◌++◌};
+ghost use Rattle.std.specs.Prelude.{length, take, drop, unsigned_abs, Ok};
 ghost use Rattle.std.specs.Fmt.{decimal};
 ghost use Rattle.fixed_num.specs.Written.{last_digits, written, placed, sign, fraction_text};
 ghost use Rattle.fixed_num.specs.Decimal.{number_of};
@@ -12,7 +13,8 @@ pub fn write_decimal(value: i128, places: u32, into: &mut [u8; 48]) -> usize
     ensures text { into.new ≡ written places value ++ drop result into.old }
     ensures length { result ≡ length (written places value) }
     ensures few { result ≤ 48 }
-    ensures back { unsigned_abs value ≤ 1_000_000_000_000_000_000 → number_of places (take result into.new) ≡ Ok value }
+    ensures back { unsigned_abs value ≤ 1_000_000_000_000_000_000
+        → number_of places (take result into.new) ≡ Ok value }
 {
     put_number(value, places, into)
 }
@@ -78,7 +80,8 @@ fn put_size(n: u128, places: u32, into: &mut [u8], at: usize) -> usize
     requires size { n < 10 ^ 28 }
     requires places { places ≤ 12 }
     requires room { at + 41 ≤ length into.old }
-    ensures text { into.new ≡ placed at (decimal (n / 10 ^ places) ++ fraction_text places n) into.old }
+    ensures text { into.new
+        ≡ placed at (decimal (n / 10 ^ places) ++ fraction_text places n) into.old }
     ensures end { result ≡ at + length (decimal (n / 10 ^ places) ++ fraction_text places n) }
     ensures few { result ≤ at + 41 }
 {

@@ -20,7 +20,7 @@ use Rattle.case_model.specs.declared.meshes.Mesh.{Mesh}
 use Rattle.case_model.specs.declared.meshes.PipeMesh.{PipeMesh}
 use Rattle.std.proofs.lemmas.List.{length-map}
 use Rattle.case_model.specs.PlaceNumbers.{number_of}
-use Rattle.envelope.specs.CellLaws.{within-first}
+use Rattle.envelope.proofs.CellLaws.{within-first}
 use Rattle.envelope.specs.Folds.{IsFoldOf, spans_of}
 use Rattle.envelope.specs.RowFolds.{probe_numbers}
 use Rattle.envelope.specs.declared.folds.Fold.{Fold}
@@ -82,7 +82,7 @@ pub reportable : (case : Case) (mesh : Mesh) (fold : Fold) → IsAccepted case m
 reportable case mesh fold a small on given = record {
   sized = record { same_nodes = small.same_nodes; same_pipes = small.same_pipes; few_nodes = a.read.few_nodes; few_pipes = a.read.few_pipes };
   some_pipes = a.some;
-  over = record { numbered = a.numbered; few_places = small.numbers; whole = λ k h. within-first (spans_of fold) mesh.places k given.spans_are h };
+  over = record { accepted = record { case = case; accepted = a }; whole = λ k h. within-first (spans_of fold) mesh.places k given.spans_are h };
   same_probes = few_numbers case mesh fold.probes.items given.probes_are;
   same_steps = given.steps_are;
   same_every = given.every_is;

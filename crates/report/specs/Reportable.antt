@@ -1,7 +1,7 @@
 -- What a report is written from: a case within its limits, its mesh, and a fold over all places of
 -- the mesh.
 use Rattle.std.specs.Prelude.{◌≡◌, ℕ, ◌<◌, ◌≤◌, true, length, All}
-use Rattle.case_model.specs.Mesh.{IsNumbered}
+use Rattle.case_model.specs.Accepted.{IsAcceptedMesh}
 use Rattle.case_model.specs.PlaceNumbers.{IsOn, number_of}
 use Rattle.case_model.specs.declared.cases.Case.{Case}
 use Rattle.case_model.specs.declared.cases.ProbeAt.{ProbeAt}
@@ -19,10 +19,9 @@ pub record IsSized (case : Case) (mesh : Mesh) : Type 0 where
   pub few_nodes : length case.nodes ≤ 4_096
   pub few_pipes : length case.pipes ≤ 4_096
 
--- the places of the mesh are numbered without a gap, and the fold keeps the extreme of each
+-- the mesh is that of an accepted case, and the fold keeps the extreme of each of its places
 pub record IsOver (mesh : Mesh) (fold : Fold) : Type 0 where
-  pub numbered : IsNumbered mesh
-  pub few_places : mesh.places ≤ 400_000
+  pub accepted : IsAcceptedMesh mesh
   pub whole : (k : ℕ) → k < mesh.places → is_within (spans_of fold) k ≡ true
 
 pub record IsReportable (case : Case) (mesh : Mesh) (fold : Fold) : Type 0 where

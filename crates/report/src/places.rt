@@ -1,10 +1,11 @@
 //! Places by their numbers, and the numbers that a fold keeps of a place.
 ghost use Rattle.std.specs.Prelude.{◌≡◌, ◌<◌, ◌≤◌, ◌+◌, length};
-ghost use Rattle.case_model.specs.Mesh.{IsNumbered, reaches};
+ghost use Rattle.case_model.specs.Accepted.{IsAcceptedMesh};
+ghost use Rattle.case_model.specs.Mesh.{reaches};
 ghost use Rattle.case_model.specs.PlaceNumbers.{IsOn, place_among, place_at};
 ghost use Rattle.report.specs.Reportable.{IsOver, extremes_of};
 
-use case_model::{Mesh, PipeMesh, ProbeAt, place_number};
+use case_model::{Mesh, PipeMesh, ProbeAt, accepted_cases_are_kept, place_number};
 use envelope::{Extreme, Fold, numbers_tell_places};
 
 // The place of a number.
@@ -55,14 +56,12 @@ fn on_pipe(pipe: usize, place: u64) -> ProbeAt
 
 // The place of a number, which is one of the mesh.
 pub(crate) fn place_at(mesh: &Mesh, number: u64) -> ProbeAt
-    requires nodes { length mesh.now.ends ≤ 4_096 }
-    requires pipes { length mesh.now.pipes ≤ 4_096 }
-    requires numbered { IsNumbered mesh.now }
-    requires few { mesh.now.places ≤ 400_000 }
+    requires accepted { IsAcceptedMesh mesh.now }
     requires there { number < mesh.now.places }
     ensures place { result ≡ place_at mesh.now number }
     ensures on { IsOn mesh.now result }
 {
+    accepted_cases_are_kept();
     numbers_tell_places();
     numbered_place(mesh, number)
 }

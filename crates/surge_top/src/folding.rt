@@ -1,10 +1,9 @@
 //! The fold of a run, which keeps what its report tells, and the report of the rows that it was
 //! told.
-ghost use Rattle.std.specs.Prelude.{◌≡◌, ◌≤◌, [], ◌∷◌, IfOk, None};
+ghost use Rattle.std.specs.Prelude.{◌≡◌, [], ◌∷◌, IfOk, None};
 ghost use Rattle.std.specs.List.{All};
 ghost use Rattle.case_model.specs.Accepted.{IsAccepted};
 ghost use Rattle.case_model.specs.FirstFault.{first_fault};
-ghost use Rattle.case_model.specs.Mesh.{IsNumbered};
 ghost use Rattle.case_model.specs.PlaceNumbers.{IsOn};
 ghost use Rattle.envelope.specs.Folds.{IsFoldOf, Stands};
 ghost use Rattle.envelope.specs.Notings.{nothing};
@@ -36,9 +35,8 @@ pub(crate) fn fold_over(alloc: Global, case: &Case, mesh: &Mesh) -> Result<Fold,
 
 // The place numbers of the probes, in file order.
 fn probe_numbers(alloc: Global, case: &Case, mesh: &Mesh) -> Result<Vec<u64>, AllocError>
+    requires accepted { IsAccepted case.now mesh.now }
     requires on { All (λ probe. IsOn mesh.now probe.at) case.now.probes }
-    requires numbered { IsNumbered mesh.now }
-    requires few { mesh.now.places ≤ 400_000 }
     ensures { IfOk result (λ numbers. numbers.items ≡ numbers_of mesh.now case.now) }
 {
     let probes = case.probes.as_slice();

@@ -1,7 +1,8 @@
 //! A history call by call, and a writer and three readers, each in a thread of its own.
 ghost use Rattle.std.specs.Prelude.{◌≡◌, ◌+◌, ◌*◌, ◌<◌, ◌≤◌, true, length, All, IfOk};
 ghost use Rattle.endhistory.specs.Blocks.{block, count_blocks};
-ghost use Rattle.endhistory.specs.Seats.{IsAt, IsNewReader, IsNewWriter, writing, reading, blocks_of};
+ghost use Rattle.endhistory.specs.Seats.{IsAt, IsNewReader, IsNewWriter};
+ghost use Rattle.endhistory.specs.Seats.{writing, reading, blocks_of};
 ghost use Rattle.endhistory.specs.Steps.{IsFree};
 
 use endhistory::{CountTag, History, Look, Reader, Vacancy, Writer};
