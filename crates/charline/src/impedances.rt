@@ -9,7 +9,7 @@ ghost use Rattle.charline.specs.Characteristics.{
 
 /// The impedance (1e-6 s/m2) of a reach of impedance `b` with its friction `r` (1e-12 s2/m5) at a flow
 /// `q` (1e-9 m3/s), whichever way it goes.
-#[tactic(auto, unfolding(crate::specs::Characteristics::friction_impedance, fixed_num::specs::Rounding::rnd))]
+#[tactic(auto, unfolding(crate::specs::Characteristics::friction_impedance))]
 pub(crate) fn friction_impedance(b: i64, r: i128, q: i64) -> i64
     requires impedance { IsImpedance b }
     requires resistance { IsResistance r }

@@ -45,30 +45,40 @@ use crate::quotients::{driven_flow, half};
 use case_model::{Arrival, CavityRule, Friction, Point, point_of};
 use fixed_num::rnd;
 
+/// What the interior law knows of a reach of a pipe.
+#[derive(Clone, Copy, Debug)]
+pub struct Reach {
+    /// In which form friction is taken.
+    pub friction: Friction,
+    /// The impedance, in 1e-6 s/m2.
+    pub b: i64,
+    /// The friction, in 1e-12 s2/m5.
+    pub r: i128,
+}
+
 /// The point of an inner place one step later, of its neighbours and itself: the interior law with
 /// the discrete vapour cavity. Bad exactly where one of them is, a characteristic is out of range, or
 /// a number of the result is. Wylie and Streeter, Fluid Transients in Systems, method of
 /// characteristics and column separation.
 pub fn inner_point(
-    friction: Friction,
+    reach: &Reach,
     rule: &CavityRule,
-    b: i64,
-    r: i128,
     left: &Point,
     own: &Point,
     right: &Point,
 ) -> Point
     requires rule { IsRule rule.now }
-    requires impedance { IsImpedance b }
-    requires resistance { IsResistance r }
+    requires impedance { IsImpedance reach.now.b }
+    requires resistance { IsResistance reach.now.r }
     requires left_in { IsPoint left.now }
     requires own_in { IsPoint own.now }
     requires right_in { IsPoint right.now }
-    ensures { result ≡ inner_of friction rule.now b r left.now own.now right.now }
+    ensures { let reach = reach.now in
+        result ≡ inner_of reach.friction rule.now reach.b reach.r left.now own.now right.now }
 {
-    match friction {
-        Friction::Explicit => explicit_point(rule, b, r, left, own, right),
-        Friction::Linear => linear_point(rule, b, r, left, own, right),
+    match reach.friction {
+        Friction::Explicit => explicit_point(rule, reach.b, reach.r, left, own, right),
+        Friction::Linear => linear_point(rule, reach.b, reach.r, left, own, right),
     }
 }
 

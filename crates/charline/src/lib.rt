@@ -12,5 +12,5 @@ mod quotients;
 pub use arrivals::{arrive_minus, arrive_plus};
 pub use cavities::cavity_volume;
 pub use equal::equal_impedances;
-pub use interior::{explicit_point, inner_point, linear_point};
+pub use interior::{Reach, explicit_point, inner_point, linear_point};
 pub use quotients::{driven_flow, impedance_head};

@@ -5,7 +5,7 @@ ghost use Rattle.charline.specs.Characteristics.{IsResistance, friction_head as 
 
 /// The head (1e-6 m) that friction `r` (1e-12 s2/m5) takes along one reach from a flow `q` (1e-9 m3/s),
 /// with the sign of the flow.
-#[tactic(auto, unfolding(crate::specs::Characteristics::friction_head, fixed_num::specs::Rounding::rnd))]
+#[tactic(auto, unfolding(crate::specs::Characteristics::friction_head))]
 pub(crate) fn friction_head(r: i128, q: i64) -> i128
     requires resistance { IsResistance r }
     requires flow_in { unsigned_abs q ≤ 1_000_000_000_000 }

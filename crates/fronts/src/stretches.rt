@@ -84,7 +84,8 @@ impl Stretch {
         requires in_range { IsPoint point }
         ensures put { IsPut step place point self.old self.new }
         ensures holds { (law : Meaning) (since front sooner later : ℕ → ℕ) →
-            Puts step place (count_of self.old) since front sooner later → point ≡ spot law self.old step place →
+            Puts step place (count_of self.old) since front sooner later →
+            point ≡ spot law self.old step place →
             Holds law since front self.old → Holds law sooner later self.new }
     {
         self.write(step, place, point);

@@ -28,7 +28,7 @@ use fixed_num::rnd;
 /// The state of a reservoir at its head (1e-6 m); `flows` receives the flow into it (1e-9 m3/s) along
 /// each arrival. Bad, with flows 0, where a flow is out of range.
 /// Wylie and Streeter, Fluid Transients in Systems, reservoir as a boundary.
-#[tactic(auto, unfolding(crate::specs::Junctions::reservoir_state, crate::specs::Junctions::reservoir_flows))]
+#[tactic(auto, unfolding(crate::specs::Junctions::reservoir_state))]
 pub fn reservoir(head: i64, arrivals: &[Arrival], flows: &mut [i64]) -> NodeState
     requires head_in { IsHead head }
     requires some { 0 < length arrivals.now }
@@ -45,7 +45,7 @@ pub fn reservoir(head: i64, arrivals: &[Arrival], flows: &mut [i64]) -> NodeStat
 /// `flows` as of a reservoir. Bad, with flows 0, where the old state is Bad or a number of the new one
 /// is out of range. Wylie and Streeter, Fluid Transients in Systems, junction of pipes and column
 /// separation.
-#[tactic(auto, unfolding(crate::specs::Junctions::junction_state, crate::specs::Junctions::junction_flows, crate::specs::Levels::flows_of))]
+#[tactic(auto, unfolding(crate::specs::Junctions::junction_state, crate::specs::Levels::flows_of))]
 pub fn junction(
     rule: &CavityRule,
     demand: i64,

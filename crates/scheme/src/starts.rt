@@ -170,7 +170,7 @@ fn inflow_along(case: &Case, end: &End) -> i128
 }
 
 // The head (1e-6 m) at a place of so many reaches, between the heads at both ends.
-#[tactic(auto, unfolding(crate::specs::Starts::head_between, case_model::specs::Formulas::elevation_between))]
+#[tactic(auto, unfolding(crate::specs::Starts::head_between))]
 fn level(first: i64, last: i64, place: u32, reaches: u32) -> i64
     requires first_in { unsigned_abs first ≤ 100_000_000_000 }
     requires last_in { unsigned_abs last ≤ 100_000_000_000 }

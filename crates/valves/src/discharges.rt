@@ -53,7 +53,7 @@ pub struct Valve {
 /// is Bad, the valve is over its limit on its pipe (b*q0^2 over 2*h0*10^24), or a number of the new
 /// state is out of range. Wylie and Streeter, Fluid Transients in Systems, valve
 /// at the downstream end of a pipe and column separation.
-#[tactic(auto, unfolding(crate::specs::Discharges::discharge_state, crate::specs::Discharges::discharge_flow))]
+#[tactic(auto, unfolding(crate::specs::Discharges::discharge_state))]
 pub fn discharge(
     rule: &CavityRule,
     valve: &Valve,

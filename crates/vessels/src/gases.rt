@@ -35,7 +35,7 @@ use junctions::{bad_state, filled};
 /// (1e-6 s) after its old one; `flows` as of a tank. Bad, with flows 0, where the old state is Bad,
 /// the volume is outside the table, or a number of the new state is out of range.
 /// Wylie and Streeter, Fluid Transients in Systems, air chambers.
-#[tactic(auto, unfolding(crate::specs::Vessels::vessel_state, crate::specs::Vessels::vessel_flows, junctions::specs::Levels::flows_of))]
+#[tactic(auto, unfolding(crate::specs::Vessels::vessel_state, crate::specs::Vessels::vessel_flows))]
 pub fn vessel(
     dt: i64,
     gas: &[(i64, i64)],

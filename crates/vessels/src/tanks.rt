@@ -29,7 +29,7 @@ use junctions::{bad_state, filled, weighted_sums};
 /// receives the flow into it (1e-9 m3/s) along each arrival. Bad, with flows 0, where the old state is
 /// Bad or a number of the new one is out of range.
 /// Wylie and Streeter, Fluid Transients in Systems, surge tanks.
-#[tactic(auto, unfolding(crate::specs::Vessels::tank_state, crate::specs::Vessels::tank_flows, junctions::specs::Levels::flows_of))]
+#[tactic(auto, unfolding(crate::specs::Vessels::tank_state, crate::specs::Vessels::tank_flows))]
 pub fn tank(
     dt: i64,
     area: i64,

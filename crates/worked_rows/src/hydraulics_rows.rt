@@ -1,6 +1,6 @@
 //! Rows of single laws: characteristics with both forms of friction, cavities, and each kind of node.
 use case_model::{Arrival, CavityRule, Friction, NodeState, Point, Through};
-use charline::{arrive_minus, arrive_plus, inner_point};
+use charline::{Reach, arrive_minus, arrive_plus, inner_point};
 use junctions::{junction, reservoir};
 use pumps::pump_flow;
 use valves::{Valve, discharge, inline};
@@ -93,16 +93,13 @@ fn friction_where_two_characteristics_meet(rt: HostRuntime) {
         (Friction::Linear, 99_009_901, 990_099_010),
     ];
     for (friction, h, q) in rows {
+        let reach = Reach {
+            friction,
+            b: 100_000_000,
+            r: 1_000_000_000_000,
+        };
         assert_eq!(rt;
-            inner_point(
-                friction,
-                &rule,
-                100_000_000,
-                1_000_000_000_000,
-                &left,
-                &rest,
-                &rest
-            ),
+            inner_point(&reach, &rule, &left, &rest, &rest),
             Point::Good {
                 h,
                 qu: q,
@@ -145,8 +142,13 @@ fn cavities_in_a_pipe(rt: HostRuntime) {
             qd: 0,
             v: 0,
         };
+        let reach = Reach {
+            friction: Friction::Explicit,
+            b: 129_834_328,
+            r: 0,
+        };
         assert_eq!(rt;
-            inner_point(Friction::Explicit, &rule, 129_834_328, 0, &low, &own, &low),
+            inner_point(&reach, &rule, &low, &own, &low),
             Point::Good {
                 h: -10_100_000,
                 qu,
