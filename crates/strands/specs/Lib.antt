@@ -1,4 +1,5 @@
 pub mod Marks
 pub mod Sections
 pub mod Stations
+pub mod Tents
 pub mod Words
