@@ -15,6 +15,7 @@ mod Shaped
 pub mod Sound
 mod Standing
 mod Strands
+mod Touching
 mod Whole
 mod Windowed
 mod Wiring

@@ -17,11 +17,13 @@ use Rattle.regions.specs.Needs.{AreEnough}
 use Rattle.regions.specs.Regions.{IsPartition, IsWhole}
 use Rattle.regions.specs.declared.shapes.Shape.TheVariants.{OfSection}
 use Rattle.regions.specs.Sides.{shape_at, IsWired, AreMutual}
+use Rattle.regions.specs.Touching.{AreTouching}
 use Rattle.regions.proofs.Joining.{HasNodes, all-mutual, section-nodes}
 use Rattle.regions.proofs.Needing.{enough}
 use Rattle.regions.proofs.Owning.{partition}
 use Rattle.regions.proofs.Reading.{all-written}
 use Rattle.regions.proofs.Strands.{IsOver, layout-over, layout-windows}
+use Rattle.regions.proofs.Touching.{all-touching}
 use Rattle.regions.proofs.Whole.{whole}
 use Rattle.regions.proofs.Windowed.{window-is, window-some}
 use Rattle.regions.proofs.Wiring.{wired}
@@ -99,6 +101,11 @@ pub laid_enough : (layout : Layout) (mesh : Mesh) → IsLaidOut layout mesh → 
 laid_enough layout mesh l =
     let c = l.cut in
     subst (λ (x : Layout). AreEnough x mesh) (sym c.layout_is) (enough l.case.steps c.wish mesh c.accepted.good (wired_for l.case mesh c.accepted) c.some)
+
+pub laid_touching : (layout : Layout) (mesh : Mesh) → IsLaidOut layout mesh → AreTouching layout mesh
+laid_touching layout mesh l =
+    let c = l.cut in
+    subst (λ (x : Layout). AreTouching x mesh) (sym c.layout_is) (all-touching l.case.steps c.wish mesh c.accepted.good c.some)
 
 -- ---- its windows
 

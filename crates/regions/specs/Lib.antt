@@ -6,3 +6,4 @@ pub mod Needs
 pub mod Numbers
 pub mod Regions
 pub mod Sides
+pub mod Touching

@@ -19,6 +19,7 @@ ghost use Rattle.regions.specs.LaidOut.{IsCutFor, IsLaidOut};
 ghost use Rattle.regions.specs.Needs.{AreEnough, AgreeOnReads, AgreeAfter};
 ghost use Rattle.regions.specs.Regions.{HasSpot, IsPartition, IsWhole};
 ghost use Rattle.regions.specs.Sides.{IsWired, AreMutual};
+ghost use Rattle.regions.specs.Touching.{AreTouching};
 
 /// The law of accepted meshes: rows can be computed in the mesh of a case that division accepts,
 /// its places are numbered, all its counts are within their limits, and each end of a pipe is found
@@ -64,6 +65,13 @@ pub fn cuts_follow_the_window()
 pub fn sides_are_mutual()
     ensures { (layout : LayoutSeen) (mesh : MeshSeen) →
         IsLaidOut layout mesh → AreMutual layout mesh }
+{}
+
+/// The law of stations: each strand stands on the mesh, with room for a window's points, and the
+/// sections beside a station begin or end at its place.
+pub fn strands_touch()
+    ensures { (layout : LayoutSeen) (mesh : MeshSeen) →
+        IsLaidOut layout mesh → AreTouching layout mesh }
 {}
 
 /// The law of regions: each node and each place, at each step of the windows, lies in exactly one

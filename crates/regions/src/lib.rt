@@ -13,7 +13,7 @@ mod sides;
 
 pub use laws::{
     accepted_meshes_are_sound, blocks_are_in_order, cuts_follow_the_window, layouts_are_sound,
-    needs_are_enough, reads_are_all, regions_are_a_partition, sides_are_mutual,
+    needs_are_enough, reads_are_all, regions_are_a_partition, sides_are_mutual, strands_touch,
 };
 pub use layouts::layout;
 pub use shapes::{Layout, Shape, Spot, WIDEST_WINDOW};
