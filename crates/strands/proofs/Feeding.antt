@@ -1,5 +1,6 @@
 -- The strand of a section: the initial row, how it is noted, and the tent with its blocks.
-use Rattle.std.proofs.Common.{◌≡◌, ℕ, ◌+◌, ◌-◌, ◌<◌, ◌≤◌, ◌⊎◌, inl, inr, ◌∙◌, ap, sym, subst, refl, arith, Bool, true, false, Some, if◌then◌else◌}
+use Rattle.std.proofs.Common.{◌≡◌, ℕ, ◌+◌, ◌-◌, ◌<◌, ◌≤◌, ◌⊎◌, inl, inr, ◌∙◌, ap, sym, subst, refl}
+use Rattle.std.proofs.Common.{arith, Bool, true, false, Some, if◌then◌else◌}
 use Rattle.std.specs.Prelude.{◌||◌, not}
 use Rattle.std.proofs.Math.Bool.{and-false}
 use Rattle.std.proofs.lemmas.Bool.{eq-eqb, le-leb, le-ltb, lt-leb, lt-ltb, ne_eqb, true≢false}
@@ -47,7 +48,8 @@ starts-more law first old new place point same put e h x b = elim (before-or-at 
 
 -- and so have all
 pub starts-all : (law : Meaning) (old new : Stretch) (n : ℕ) → AreSamePlaces old new
-    → ((x : ℕ) → x < count_of old → kept new 0 x ≡ spot law old 0 x) → Holds law ever (risen n 0) new
+    → ((x : ℕ) → x < count_of old → kept new 0 x ≡ spot law old 0 x)
+    → Holds law ever (risen n 0) new
 starts-all law old new n same h = record {
   cell = λ t x b s f g.
       let size : count_of new ≡ count_of old = same.count_is in
@@ -69,26 +71,35 @@ start-later : (low high s k : ℕ) → (s ≡ 0 → ⊥) → start_marks low hig
 start-later low high s k h = rw (ne_eqb s 0 h) refl
 
 -- a run of places at step 0 has what the rows have there, and nothing else
-pub split-start : (law : Meaning) (stretch : Stretch) (low high : ℕ) → ArePlaces → IsLine law stretch
+pub split-start : (law : Meaning) (stretch : Stretch) (low high : ℕ) → ArePlaces
+    → IsLine law stretch
     → high ≤ count_of stretch
     → ((x : ℕ) → low ≤ x → x < high → kept stretch 0 x ≡ spot law stretch 0 x) → (s k : ℕ)
-    → IsSplit law (run_noted stretch 0 low high) (start_marks (stretch.number + low) (stretch.number + high)) s k
+    → IsSplit law (run_noted stretch 0 low high)
+    (start_marks (stretch.number + low) (stretch.number + high)) s k
 split-start law stretch low high places line inside held s k =
     let from = stretch.number + low in
     let until = stretch.number + high in
     elim (is-now s 0) [
       | inr e ↦ inr (start-later from until s k e, run-before stretch 0 low high s k (inl e))
       | inl e ↦ elim (where-is k from until) [
-        | inl a ↦ inr (start-out from until s k (inl a), run-before stretch 0 low high s k (inr (inl a)))
+        | inl a ↦ inr (
+          start-out from until s k (inl a),
+          run-before stretch 0 low high s k (inr (inl a)),
+        )
         | inr c ↦ elim c [
-          | inl a ↦ inr (start-out from until s k (inr a), run-before stretch 0 low high s k (inr (inr a)))
+          | inl a ↦ inr (
+            start-out from until s k (inr a),
+            run-before stretch 0 low high s k (inr (inr a)),
+          )
           | inr a ↦
               let lo : stretch.number + low ≤ k = a.0 in
               let hi : k < stretch.number + high = a.1 in
               inl (
                 start-in from until s k e lo hi,
                 run-in stretch 0 low high s k e lo hi
-                    ∙ ap (λ y. Some (OfPoint y)) (held (k - stretch.number) (omega arith) (omega arith))
+                    ∙ ap (λ y. Some (OfPoint y))
+                    (held (k - stretch.number) (omega arith) (omega arith))
                     ∙ sym (rows-at law stretch 0 k places line (omega arith) (omega arith))
                     ∙ ap (λ t. rows_noted law t k) (sym e),
               )
@@ -100,12 +111,15 @@ split-start law stretch low high places line inside held s k =
 
 -- two fronts that are the same at all places hold the same
 pub same-front : (law : Meaning) (one other : ℕ → ℕ) (stretch : Stretch)
-    → ((x : ℕ) → x < count_of stretch → one x ≡ other x) → Holds law ever one stretch → Holds law ever other stretch
+    → ((x : ℕ) → x < count_of stretch → one x ≡ other x) → Holds law ever one stretch
+    → Holds law ever other stretch
 same-front law one other stretch e h = record {
-  cell = λ t x b s f g. let m : one x ≡ other x = e x b in h.cell t x b s (omega arith) (omega arith);
+  cell = λ t x b s f g.
+      let m : one x ≡ other x = e x b in h.cell t x b s (omega arith) (omega arith);
 }
 
-pub unfed-is : (left right : Bool) (w s n x : ℕ) → left ≡ false → right ≡ false → fed left right w s n x ≡ tent s n x
+pub unfed-is : (left right : Bool) (w s n x : ℕ) → left ≡ false → right ≡ false
+    → fed left right w s n x ≡ tent s n x
 unfed-is left right w s n x a b = rw (a, b) (omega arith)
 
 pub fed-is : (left right : Bool) (w s n x : ℕ) → left ≡ true → right ≡ true → x ≤ n
@@ -123,8 +137,10 @@ bare-right false w s n a = record { near = λ x b c. omega arith; far = λ x b. 
 -- where this side's block isn't loaded, no block of this side has raised the front
 pub fed-bare : (side left right : Bool) (w s n : ℕ) → w ≤ n → (if side then left else right) ≡ false
     → IsBare side n w s (fed left right w s n)
-fed-bare true left right w s n a e = subst (λ z. IsBare true n w s (fed z right w s n)) (sym e) (bare-left right w s n a)
-fed-bare false left right w s n a e = subst (λ z. IsBare false n w s (fed left z w s n)) (sym e) (bare-right left w s n a)
+fed-bare true left right w s n a e =
+    subst (λ z. IsBare true n w s (fed z right w s n)) (sym e) (bare-left right w s n a)
+fed-bare false left right w s n a e =
+    subst (λ z. IsBare false n w s (fed left z w s n)) (sym e) (bare-right left w s n a)
 
 -- and once it is loaded it has
 pub fed-more : (side left right : Bool) (w s n x : ℕ) → (if side then left else right) ≡ false
@@ -139,9 +155,12 @@ fed-more false false false w s n x e = omega arith
 -- a section with one block more
 pub section-loaded : (law : Meaning) (side : Bool) (w s : ℕ) (old : Section) (stretch : Stretch)
     → has_block side old ≡ false → AreSamePlaces old.stretch stretch → IsSectionAt law w s old
-    → (IsBare side (count_of old.stretch - 1) w s (fed old.left old.right w s (count_of old.stretch - 1))
-    → Holds law ever (raised side (count_of old.stretch - 1) w s (fed old.left old.right w s (count_of old.stretch - 1))) stretch)
-    → IsSectionAt law w s record { stretch = stretch; left = old.left || side; right = old.right || not side }
+    → (IsBare side (count_of old.stretch - 1) w s
+    (fed old.left old.right w s (count_of old.stretch - 1))
+    → Holds law ever (raised side (count_of old.stretch - 1) w s
+    (fed old.left old.right w s (count_of old.stretch - 1))) stretch)
+    → IsSectionAt law w s
+    record { stretch = stretch; left = old.left || side; right = old.right || not side }
 section-loaded law side w s old stretch e same at holds =
     let n = count_of old.stretch - 1 in
     let size : count_of stretch ≡ count_of old.stretch = same.count_is in
@@ -151,7 +170,9 @@ section-loaded law side w s old stretch e same at holds =
       line = same-line law old.stretch stretch same at.line;
       some = at.some;
       long = omega arith;
-      holds = subst (λ z. Holds law ever (fed (old.left || side) (old.right || not side) w s (z - 1)) stretch) (sym size)
-          (same-front law (raised side n w s (fed old.left old.right w s n)) (fed (old.left || side) (old.right || not side) w s n) stretch
+      holds = subst (λ z. Holds law ever
+          (fed (old.left || side) (old.right || not side) w s (z - 1)) stretch) (sym size)
+          (same-front law (raised side n w s (fed old.left old.right w s n))
+          (fed (old.left || side) (old.right || not side) w s n) stretch
           (λ x b. fed-more side old.left old.right w s n x e) h);
     }

@@ -13,6 +13,8 @@ loop-place-preserved g c =
         number_is = now.number_is ∙ inv.number_is;
         count_is = now.count_is ∙ inv.count_is;
       };
-      put = starts-more (g.L.Law.meaning c.args.law.now) c.args.stretch.now c.loop-place.stretch c.put.new.self c.loop-place.place
-          c.start_point-point.result inv c.put.ensures.put c.start_point-point.ensures c.loop-place.invariant.put;
+      put = starts-more (g.L.Law.meaning c.args.law.now)
+          c.args.stretch.now c.loop-place.stretch c.put.new.self c.loop-place.place
+          c.start_point-point.result inv c.put.ensures.put c.start_point-point.ensures
+          c.loop-place.invariant.put;
     }

@@ -1,0 +1,2 @@
+//! Which points each strand of a layout owns, and what strands hand to one another.
+#![tactic(auto)]
