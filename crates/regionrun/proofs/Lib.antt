@@ -1,1 +1,2 @@
 pub mod Owning
+mod Handing

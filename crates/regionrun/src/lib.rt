@@ -1,4 +1,5 @@
-//! Which points each strand of a layout owns.
+//! The regions of all strands of a layout, one after another: which points each strand owns, what
+//! strands hand to one another, and how each is computed region by region.
 #![tactic(auto)]
 
 mod lawful;

@@ -1,4 +1,5 @@
 mod Advancing
+mod Feeding
 mod Handing
 mod Loading
 mod Marking

@@ -1,4 +1,6 @@
+pub mod Beside
 pub mod Marks
 pub mod Sections
 pub mod Stations
+pub mod Tents
 pub mod Words

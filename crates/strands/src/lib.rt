@@ -3,9 +3,13 @@
 #![tactic(auto)]
 
 mod blocks;
+mod ranges;
 mod sections;
+mod starts;
 mod stations;
+mod tents;
 
 pub use blocks::{load_side, write_side};
 pub use sections::{advance, advance_region, advance_start};
 pub use stations::{advance_run, advance_seam};
+pub use tents::Section;
