@@ -1,5 +1,6 @@
 mod Advancing
+mod Fans
 mod Handing
 mod Loading
 mod Marking
-mod Seams
+mod Taking

@@ -1,3 +1,4 @@
+pub mod Beside
 pub mod Marks
 pub mod Sections
 pub mod Stations

@@ -2,10 +2,12 @@
 //! its neighbours.
 #![tactic(auto)]
 
+mod besides;
 mod blocks;
 mod sections;
 mod stations;
 
+pub use besides::{load_beside, write_beside};
 pub use blocks::{load_side, write_side};
 pub use sections::{advance, advance_region, advance_start};
 pub use stations::{advance_run, advance_seam};
