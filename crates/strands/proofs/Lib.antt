@@ -1,6 +1,7 @@
 mod Advancing
 mod Feeding
+mod Fans
 mod Handing
 mod Loading
 mod Marking
-mod Seams
+mod Taking

@@ -2,6 +2,7 @@
 //! its neighbours.
 #![tactic(auto)]
 
+mod besides;
 mod blocks;
 mod ranges;
 mod sections;
@@ -9,6 +10,7 @@ mod starts;
 mod stations;
 mod tents;
 
+pub use besides::{load_beside, write_beside};
 pub use blocks::{load_side, write_side};
 pub use sections::{advance, advance_region, advance_start};
 pub use stations::{advance_run, advance_seam};
