@@ -1,2 +1,3 @@
-pub mod Owning
 mod Handing
+pub mod Owning
+mod Sizing

@@ -1,3 +1,6 @@
+pub mod Engine
 pub mod Handed
 pub mod Lawful
 pub mod Owned
+pub mod Right
+pub mod Stubs

@@ -2,6 +2,15 @@
 //! strands hand to one another, and how each is computed region by region.
 #![tactic(auto)]
 
+mod bodies;
+mod frontiers;
+mod gates;
 mod lawful;
+mod one_strand;
+mod serial;
+mod sizes;
 
+pub use gates::{EntryStub, Gate, OpenGate, OpenStub};
 pub use lawful::layouts_are_lawful;
+pub use one_strand::Strand;
+pub use serial::run_serial;

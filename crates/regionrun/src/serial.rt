@@ -1,0 +1,167 @@
+//! All regions of all strands, one after another on one thread.
+ghost use Rattle.std.specs.Prelude.{◌≡◌, ℕ, ◌+◌, ◌*◌, ◌/◌, ◌<◌, ◌≤◌, ◌==◌, length, IfOk, true};
+ghost use Rattle.case_model.specs.Meaning.{Meaning};
+ghost use Rattle.regionrun.specs.Engine.{AreAt, AreAtTurn, AreSameFolds, HaveBlocks, HaveRoom};
+ghost use Rattle.regionrun.specs.Engine.{IsCourse};
+ghost use Rattle.regionrun.specs.Engine.{count_at, has_turn, none};
+ghost use Rattle.regionrun.specs.Right.{IsFed, IsRight, IsSameStrand, region_count};
+ghost use Rattle.regions.specs.LaidOut.{IsLaidOut};
+ghost use Rattle.regions.specs.Sides.{is_section_shape};
+ghost use Rattle.schedule.specs.Plans.{net_of};
+
+use crate::Gate;
+use crate::frontiers::Frontier;
+use crate::one_strand::Strand;
+use crate::sizes::sizes;
+use case_model::{Law, List, Mesh};
+use regions::{Layout, Shape};
+use schedule::Plan;
+use std::alloc::{AllocError, Global};
+
+// What all turns of a run have in common.
+#[derive(Drop)]
+struct Course<'a, L, G> {
+    law: &'a L,
+    layout: &'a Layout,
+    plan: &'a Plan,
+    gate: &'a G,
+}
+
+/// Computes all regions of all strands of a layout: in turn the regions of each number, of the
+/// sections and then of the stations, each in order of strands. All memory is taken before the
+/// first region; the error is want of it.
+pub fn run_serial<L: Law, G: Gate>(
+    alloc: Global,
+    law: &L,
+    layout: &Layout,
+    mesh: &Mesh,
+    mut strands: Vec<Strand<G::Stub>>,
+    gate: &G,
+) -> Result<Vec<Strand<G::Stub>>, AllocError>
+    requires mesh { mesh.now ≡ (L.meaning law.now).mesh }
+    requires laid_out { IsLaidOut layout.now mesh.now }
+    requires strands { AreAt G.Stub.strand_of G.Stub.entered_of (L.meaning law.now) layout.now none
+        strands.items }
+    ensures done { IfOk result (λ done. AreAt G.Stub.strand_of G.Stub.entered_of
+        (L.meaning law.now) layout.now (region_count layout.now) done.items) }
+    ensures folds { IfOk result (λ done. AreSameFolds strands.items done.items) }
+{
+    sizes(layout, mesh);
+    let plan = Plan::make(alloc, layout, mesh, 1)?;
+    let mut blocks = blank_blocks(alloc, layout, mesh)?;
+    let course = Course {
+        law,
+        layout,
+        plan: &plan,
+        gate,
+    };
+    for turn in 0..2 * layout.windows + 1 {
+        run_turn(&course, turn, &mut strands, &mut blocks);
+    }
+    Ok(strands)
+}
+
+// Room for the blocks of all strands.
+fn blank_blocks(alloc: Global, layout: &Layout, mesh: &Mesh) -> Result<Vec<List<u64>>, AllocError>
+    requires laid_out { IsLaidOut layout.now mesh.now }
+    ensures { IfOk result (λ blocks.
+        HaveRoom layout.now mesh.now (length layout.now.shapes) blocks.items) }
+{
+    sizes(layout, mesh);
+    let mut blocks = Vec::new(alloc);
+    for strand in 0..layout.shapes.as_slice().len() as u32 {
+        let sides = layout.sides(mesh, strand) as usize;
+        let words = vec![in alloc; 0; 4 * layout.window as usize * sides]?;
+        blocks.push(List::over(words))?;
+    }
+    Ok(blocks)
+}
+
+// One turn: a region of all sections or of all stations.
+fn run_turn<L: Law, G: Gate>(
+    course: &Course<L, G>,
+    turn: u64,
+    strands: &mut [Strand<G::Stub>],
+    blocks: &mut [List<u64>],
+)
+    requires course { IsCourse (L.meaning course.now.law.now) course.now.layout.now
+        (net_of course.now.plan.now) }
+    requires turn { turn < 2 * course.now.layout.now.windows + 1 }
+    requires at { AreAtTurn G.Stub.strand_of G.Stub.entered_of (L.meaning course.now.law.now)
+        course.now.layout.now turn 0 strands.old blocks.old }
+    ensures at { AreAtTurn G.Stub.strand_of G.Stub.entered_of (L.meaning course.now.law.now)
+        course.now.layout.now (turn + 1) 0 strands.new blocks.new }
+    ensures folds { AreSameFolds strands.old strands.new }
+{
+    let sections = turn % 2 == 0;
+    for (x, shape) in course.layout.shapes.as_slice().iter().enumerate() {
+        if is_section(shape) == sections {
+            advance(course, turn, x, strands, blocks);
+        }
+    }
+}
+
+fn is_section(shape: &Shape) -> bool
+    ensures { result ≡ is_section_shape shape.now }
+{
+    matches!(shape, Shape::OfSection { .. })
+}
+
+// The next region of a strand: it is entered, fed with the blocks of the neighbours and computed.
+fn advance<L: Law, G: Gate>(
+    course: &Course<L, G>,
+    turn: u64,
+    x: usize,
+    strands: &mut [Strand<G::Stub>],
+    blocks: &mut [List<u64>],
+)
+    requires course { IsCourse (L.meaning course.now.law.now) course.now.layout.now
+        (net_of course.now.plan.now) }
+    requires turn { turn < 2 * course.now.layout.now.windows + 1 }
+    requires there { x < length course.now.layout.now.shapes }
+    requires has { has_turn course.now.layout.now turn x ≡ true }
+    requires at { AreAtTurn G.Stub.strand_of G.Stub.entered_of (L.meaning course.now.law.now)
+        course.now.layout.now turn x strands.old blocks.old }
+    ensures at { AreAtTurn G.Stub.strand_of G.Stub.entered_of (L.meaning course.now.law.now)
+        course.now.layout.now turn (x + 1) strands.new blocks.new }
+    ensures folds { AreSameFolds strands.old strands.new }
+{
+    let strand = &mut strands[x];
+    strand.enter(course.gate);
+    feed(course, turn, &mut strand.frontier, blocks);
+    strand
+        .frontier
+        .compute(course.law, blocks[x].as_mut_slice());
+}
+
+// Takes the blocks in that the next region of a strand needs.
+fn feed<L: Law, G: Gate>(
+    course: &Course<L, G>,
+    turn: u64,
+    frontier: &mut Frontier,
+    blocks: &[List<u64>],
+)
+    requires course { IsCourse (L.meaning course.now.law.now) course.now.layout.now
+        (net_of course.now.plan.now) }
+    requires turn { turn < 2 * course.now.layout.now.windows + 1 }
+    requires has { has_turn course.now.layout.now turn frontier.old.number ≡ true }
+    requires computed { frontier.old.computed ≡ turn / 2 }
+    requires right { IsRight (L.meaning course.now.law.now) course.now.layout.now frontier.old }
+    requires blocks { HaveBlocks (L.meaning course.now.law.now) course.now.layout.now
+        (count_at course.now.layout.now turn frontier.old.number) blocks.now }
+    ensures right { IsRight (L.meaning course.now.law.now) course.now.layout.now frontier.new }
+    ensures fed { IsFed course.now.layout.now frontier.new }
+    ensures computed { frontier.new.computed ≡ frontier.old.computed }
+    ensures same { IsSameStrand frontier.old frontier.new }
+{
+    if !frontier.needs() {
+        return;
+    }
+    let width = 4 * frontier.window;
+    for side in 0..frontier.sides {
+        let link = course.plan.link(frontier.number, side);
+        let from = width * link.back as usize;
+        let words = &blocks[link.strand as usize].as_slice()[from..from + width];
+        frontier.load(course.law, side, words);
+    }
+}
