@@ -1,3 +1,4 @@
 mod Handing
 pub mod Owning
 mod Sizing
+mod Turning

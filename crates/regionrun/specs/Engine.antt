@@ -6,9 +6,9 @@ use Rattle.case_model.specs.Meaning.{Meaning}
 use Rattle.envelope.specs.Folds.{IsSameFold}
 use Rattle.regions.specs.declared.shapes.Layout.{Layout}
 use Rattle.regions.specs.LaidOut.{IsLaidOut}
-use Rattle.regions.specs.Sides.{is_section, sides_of}
+use Rattle.regions.specs.Sides.{back_of, is_section, side_of, sides_of}
 use Rattle.regionrun.specs.declared.one_strand.Strand.{Strand}
-use Rattle.regionrun.specs.Handed.{IsBlock}
+use Rattle.regionrun.specs.Handed.{IsBlock, part}
 use Rattle.regionrun.specs.Right.{IsBare, IsRight}
 use Rattle.regionrun.specs.Stubs.{HasStub}
 use Rattle.schedule.specs.LayoutNets.{layout_net}
@@ -52,6 +52,12 @@ pub record HaveBlocks (law : Meaning) (layout : Layout) (count : ℕ → ℕ) (b
   pub room : HaveRoom layout law.mesh (length layout.shapes) blocks
   pub block : (y b : ℕ) → y < length layout.shapes → count y ≡ b + 1 → b < layout.windows
       → IsBlock law layout y b (slice_index_or blocks y [])
+
+-- what the neighbour of strand x at side c has handed to it last
+abbrev pub handed_words : Layout → Mesh → ℕ → ℕ → List (List ℕ) → List ℕ
+handed_words layout mesh x c blocks =
+    part (4 * layout.window) (back_of layout mesh x c)
+    (slice_index_or blocks (side_of layout mesh x c) [])
 
 -- the turns go through the regions by number: in turn 2 * m region m of all sections, in turn
 -- 2 * m + 1 that of all stations

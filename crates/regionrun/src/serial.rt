@@ -2,11 +2,11 @@
 ghost use Rattle.std.specs.Prelude.{◌≡◌, ℕ, ◌+◌, ◌*◌, ◌/◌, ◌<◌, ◌≤◌, ◌==◌, length, IfOk, true};
 ghost use Rattle.case_model.specs.Meaning.{Meaning};
 ghost use Rattle.regionrun.specs.Engine.{AreAt, AreAtTurn, AreSameFolds, HaveBlocks, HaveRoom};
-ghost use Rattle.regionrun.specs.Engine.{IsCourse};
+ghost use Rattle.regionrun.specs.Engine.{IsCourse, handed_words};
 ghost use Rattle.regionrun.specs.Engine.{count_at, has_turn, none};
 ghost use Rattle.regionrun.specs.Right.{IsFed, IsRight, IsSameStrand, region_count};
 ghost use Rattle.regions.specs.LaidOut.{IsLaidOut};
-ghost use Rattle.regions.specs.Sides.{is_section_shape};
+ghost use Rattle.regions.specs.Sides.{is_section_shape, sides_of};
 ghost use Rattle.schedule.specs.Plans.{net_of};
 
 use crate::Gate;
@@ -157,11 +157,30 @@ fn feed<L: Law, G: Gate>(
     if !frontier.needs() {
         return;
     }
-    let width = 4 * frontier.window;
     for side in 0..frontier.sides {
-        let link = course.plan.link(frontier.number, side);
-        let from = width * link.back as usize;
-        let words = &blocks[link.strand as usize].as_slice()[from..from + width];
+        let words = handed(course, frontier.number, side, blocks);
         frontier.load(course.law, side, words);
     }
+}
+
+// What the neighbour of a strand at a side has handed to it last.
+fn handed<'a, L: Law, G: Gate>(
+    course: &Course<L, G>,
+    number: u32,
+    side: usize,
+    blocks: &'a [List<u64>],
+) -> &'a [u64]
+    requires course { IsCourse (L.meaning course.now.law.now) course.now.layout.now
+        (net_of course.now.plan.now) }
+    requires there { number < length course.now.layout.now.shapes }
+    requires side { side < sides_of course.now.layout.now (L.meaning course.now.law.now).mesh number }
+    requires room { HaveRoom course.now.layout.now (L.meaning course.now.law.now).mesh
+        (length course.now.layout.now.shapes) blocks.now }
+    ensures { result.now ≡ handed_words course.now.layout.now (L.meaning course.now.law.now).mesh
+        number side blocks.now }
+{
+    let link = course.plan.link(number, side);
+    let width = 4 * course.layout.window as usize;
+    let from = width * link.back as usize;
+    &blocks[link.strand as usize].as_slice()[from..from + width]
 }
