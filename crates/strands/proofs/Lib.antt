@@ -3,4 +3,5 @@ mod Fans
 mod Handing
 mod Loading
 mod Marking
+mod Starting
 mod Taking
