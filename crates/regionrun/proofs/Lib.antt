@@ -1,3 +1,4 @@
+pub mod Beside
 pub mod Owning
 pub mod Spots
 pub mod Tents
