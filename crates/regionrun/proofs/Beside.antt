@@ -83,11 +83,11 @@ has-station layout mesh x y j q place n left right at lawful is h l e side meets
       ];
     }
 
-side-from : (layout : Layout) (mesh : Mesh) (y j : ℕ) (s : Shape) → shape_at layout y ≡ s → side_of layout mesh y j ≡ side_in mesh layout.window j s
+pub side-from : (layout : Layout) (mesh : Mesh) (y j : ℕ) (s : Shape) → shape_at layout y ≡ s → side_of layout mesh y j ≡ side_in mesh layout.window j s
 unfolding side_of
 side-from layout mesh y j s e = ap (side_in mesh layout.window j) e
 
-sides-from : (layout : Layout) (mesh : Mesh) (y : ℕ) (s : Shape) → shape_at layout y ≡ s → sides_of layout mesh y ≡ sides_in mesh s
+pub sides-from : (layout : Layout) (mesh : Mesh) (y : ℕ) (s : Shape) → shape_at layout y ≡ s → sides_of layout mesh y ≡ sides_in mesh s
 unfolding sides_of
 sides-from layout mesh y s e = ap (sides_in mesh) e
 

@@ -1,4 +1,5 @@
 pub mod Beside
 pub mod Owning
+pub mod Seams
 pub mod Spots
 pub mod Tents
