@@ -5,7 +5,7 @@ use Rattle.std.proofs.Common.{◌==◌, length}
 use Rattle.case_model.specs.declared.points.Point.{Point}
 use Rattle.case_model.specs.declared.meshes.Mesh.{Mesh}
 use Rattle.case_model.specs.Meaning.{Meaning}
-use Rattle.case_model.specs.Mesh.{reaches}
+use Rattle.case_model.specs.Mesh.{ends_of, reaches}
 use Rattle.case_model.specs.Rows.{row}
 use Rattle.case_model.specs.Words.{words_of}
 use Rattle.fronts.specs.Stretches.{AreSamePlaces, IsStretchOf, count_of}
@@ -16,10 +16,11 @@ use Rattle.regions.specs.declared.shapes.Spot.TheVariants.{Inside}
 use Rattle.regions.specs.Blocks.{block_point_of, block_spot, block_step, side_spot}
 use Rattle.regions.specs.Sides.{AreMutual, back_in, back_of, end_at, is_section, is_section_shape}
 use Rattle.regions.specs.Sides.{shape_at, side_of, sides_in, sides_of}
-use Rattle.regions.specs.Touching.{IsTouching, station_pipe, station_place}
+use Rattle.regions.specs.Touching.{IsStanding, IsTouching, station_pipe, station_place}
 use Rattle.strands.specs.Beside.{HasBeside, beside, inner_side, outer_side}
 use Rattle.strands.specs.Stations.{half}
 use Rattle.strands.specs.Words.{HasPoints, from_end, section_side, station_side, station_step}
+use Rattle.regionrun.specs.Lawful.{IsLawful}
 use Rattle.regionrun.specs.Handed.{HasSection, HasStation, IsBlockFor, block_point, point_on}
 
 -- ---- points of blocks by the kind of their strand
@@ -273,6 +274,53 @@ spoke-station layout mesh x c k number last stretch shape touch side long is =
     is.pipe_is (spoke-begins last (half layout.window) (reaches mesh p)
     stretch.first long is.first_is)
     (spoke-room last (half layout.window) (count_of stretch) is.count_is)
+
+-- ---- strands of a lawful layout
+
+-- a section as long as a window
+pub section-lawful : (layout : Layout) (mesh : Mesh) (x p place n l r number : ℕ)
+    (stretch : Stretch)
+    → IsLawful layout mesh → x < length layout.shapes
+    → shape_at layout x ≡ OfSection p place n l r → IsStretchOf p place number (n + 1) stretch
+    → HasSection layout x stretch
+section-lawful layout mesh x p place n l r number stretch lawful inside shape is =
+    section-of layout x p place n l r number stretch shape is
+    (subst (IsStanding mesh layout.window x) shape (lawful.touching.stands x inside)).2
+
+-- a seam with half a window of places to both its sides
+pub seam-lawful : (layout : Layout) (mesh : Mesh) (x c p place l r number : ℕ) (stretch : Stretch)
+    → IsLawful layout mesh → x < length layout.shapes → shape_at layout x ≡ OfSeam p place l r
+    → c < 2
+    → IsStretchOf p (place - half layout.window) number (2 * half layout.window + 1) stretch
+    → HasStation layout mesh x c (c == 1) (half layout.window) stretch
+unfolding sides_of
+seam-lawful layout mesh x c p place l r number stretch lawful inside shape side is =
+    let some : c < sides_of layout mesh x = subst (λ z. c < sides_in mesh z) (sym shape) side in
+    seam-station layout mesh x c p place l r number stretch shape side
+    (lawful.touching.touches x c inside (ap is_section_shape shape) some)
+    (subst (IsStanding mesh layout.window x) shape (lawful.touching.stands x inside)).1 is
+
+half-inside : (w n : ℕ) → w ≤ n → half w ≤ n
+half-inside w n h = omega arith
+
+-- a node with half a window of places on each of its pipes
+pub spoke-lawful : (layout : Layout) (mesh : Mesh) (x c k number : ℕ) (last : Bool)
+    (stretch : Stretch) → IsLawful layout mesh → x < length layout.shapes
+    → shape_at layout x ≡ OfNode k → c < length (ends_of mesh k)
+    → (end_at mesh k c).at_last ≡ last
+    → IsStretchOf (end_at mesh k c).pipe
+    (if last then reaches mesh (end_at mesh k c).pipe - half layout.window else 0) number
+    (half layout.window + 1) stretch
+    → HasStation layout mesh x c (not last) (if last then half layout.window else 0) stretch
+unfolding sides_of
+spoke-lawful layout mesh x c k number last stretch lawful inside shape side end is =
+    let some : c < sides_of layout mesh x = subst (λ z. c < sides_in mesh z) (sym shape) side in
+    let there : k < length mesh.ends =
+    (subst (IsStanding mesh layout.window x) shape (lawful.touching.stands x inside)).1 in
+    spoke-station layout mesh x c k number last stretch shape
+    (lawful.touching.touches x c inside (ap is_section_shape shape) some) end
+    (half-inside layout.window (reaches mesh (end_at mesh k c).pipe)
+    (lawful.touching.ends k c there side).long) is
 
 -- ---- the words of blocks
 

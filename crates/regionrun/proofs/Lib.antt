@@ -1,4 +1,9 @@
 mod Handing
-pub mod Owning
+mod Parts
 mod Sizing
 mod Turning
+pub mod Beside
+pub mod Owning
+pub mod Seams
+pub mod Spots
+pub mod Tents

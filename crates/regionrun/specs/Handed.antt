@@ -37,11 +37,16 @@ pub record IsBlockFor (law : Meaning) (layout : Layout) (y c b : ℕ) (words : L
 abbrev pub part : ℕ → ℕ → List ℕ → List ℕ
 part width c words = slice_range words (width * c) (width * c + width)
 
--- these words are block b of strand y: its parts for all its sides, one after another
-pub record IsBlock (law : Meaning) (layout : Layout) (y b : ℕ) (words : List ℕ) : Type 0 where
+-- these words have a part for each side of strand y, and the first of them, so many, are those of
+-- its block b
+pub record HasParts (law : Meaning) (layout : Layout) (y b count : ℕ) (words : List ℕ)
+    : Type 0 where
   pub each : length words ≡ 4 * layout.window * sides_of layout law.mesh y
-  pub parts : (c : ℕ) → c < sides_of layout law.mesh y
-      → IsBlockFor law layout y c b (part (4 * layout.window) c words)
+  pub parts : (c : ℕ) → c < count → IsBlockFor law layout y c b (part (4 * layout.window) c words)
+
+-- these words are block b of strand y: its parts for all its sides, one after another
+abbrev pub IsBlock : Meaning → Layout → ℕ → ℕ → List ℕ → Type 0
+IsBlock law layout y b words = HasParts law layout y b (sides_of layout law.mesh y) words
 
 -- the stretch has the places of strand x, a section
 pub record HasSection (layout : Layout) (x : ℕ) (stretch : Stretch) : Type 0 where

@@ -1,7 +1,8 @@
 mod Advancing
-mod Feeding
 mod Fans
+mod Feeding
 mod Handing
 mod Loading
 mod Marking
+mod Starting
 mod Taking

@@ -1,5 +1,6 @@
 pub mod Beside
 pub mod Marks
+pub mod Seams
 pub mod Sections
 pub mod Stations
 pub mod Tents

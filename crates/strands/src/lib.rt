@@ -5,6 +5,7 @@
 mod besides;
 mod blocks;
 mod ranges;
+mod seams;
 mod sections;
 mod starts;
 mod stations;
@@ -12,6 +13,7 @@ mod tents;
 
 pub use besides::{load_beside, write_beside};
 pub use blocks::{load_side, write_side};
+pub use seams::Seam;
 pub use sections::{advance, advance_region, advance_start};
 pub use stations::{advance_run, advance_seam};
 pub use tents::Section;
