@@ -1,4 +1,5 @@
 pub mod Beside
+pub mod Nodes
 pub mod Owning
 pub mod Seams
 pub mod Spots
