@@ -3,4 +3,5 @@ pub mod Nodes
 pub mod Owning
 pub mod Seams
 pub mod Spots
+pub mod Starts
 pub mod Tents

@@ -68,7 +68,7 @@ spoke-inside : (last : Bool) (first at far n y : ℕ) → at ≡ (if last then f
 spoke-inside true first at far n y a b c d = (omega arith, omega arith)
 spoke-inside false first at far n y a b c d = (omega arith, omega arith)
 
-at-most : (last : Bool) (far : ℕ) → (if last then far else 0) ≤ far
+pub at-most : (last : Bool) (far : ℕ) → (if last then far else 0) ≤ far
 at-most true far = omega arith
 at-most false far = omega arith
 

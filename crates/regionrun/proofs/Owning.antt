@@ -17,7 +17,7 @@ use Rattle.regionrun.specs.Owned.{spot_of, owner_at, owned, owned_below, AreOfRe
 
 -- ---- tests
 
-same-bools : (a b : Bool) → (a ≡ true → b ≡ true) → (b ≡ true → a ≡ true) → a ≡ b
+pub same-bools : (a b : Bool) → (a ≡ true → b ≡ true) → (b ≡ true → a ≡ true) → a ≡ b
 same-bools true b f g = sym (f refl)
 same-bools false true f g = g refl
 same-bools false false f g = refl
