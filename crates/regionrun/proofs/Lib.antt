@@ -1,6 +1,8 @@
 pub mod Beside
+pub mod Gathered
 pub mod Nodes
 pub mod Owning
+pub mod Reached
 pub mod Seams
 pub mod Spots
 pub mod Starts

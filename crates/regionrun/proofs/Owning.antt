@@ -22,7 +22,7 @@ same-bools true b f g = sym (f refl)
 same-bools false true f g = g refl
 same-bools false false f g = refl
 
-same-or-not : (a b : ℕ) → (a ≡ b) ⊎ (a ≢ b)
+pub same-or-not : (a b : ℕ) → (a ≡ b) ⊎ (a ≢ b)
 same-or-not a b = elim (cases_lt a b) [
   | inl l ↦ inr (λ e. absurd (omega arith))
   | inr l ↦ elim (cases_lt b a) [
