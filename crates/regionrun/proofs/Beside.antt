@@ -1,5 +1,5 @@
 -- The places around a station: which section has them, and at which side.
-use Rattle.std.proofs.Common.{◌≡◌, ℕ, ◌+◌, ◌-◌, ◌*◌, ◌<◌, ◌≤◌, ◌⊎◌, inl, inr, true, false, length, refl, ap, sym, subst, ◌∙◌, arith}
+use Rattle.std.proofs.Common.{◌≡◌, ℕ, ◌+◌, ◌-◌, ◌<◌, ◌≤◌, ◌⊎◌, inl, inr, false, length, refl, ap, sym, subst, ◌∙◌, arith}
 use Rattle.case_model.specs.declared.meshes.Mesh.{Mesh}
 use Rattle.fronts.specs.Bands.{from_place}
 use Rattle.regions.specs.declared.shapes.Layout.{Layout}
@@ -7,7 +7,7 @@ use Rattle.regions.specs.declared.shapes.Shape.{Shape}
 use Rattle.regions.specs.declared.shapes.Shape.TheVariants.{OfNode, OfSeam, OfSection}
 use Rattle.regions.specs.Regions.{InStation, InStationBy, InStations}
 use Rattle.regions.specs.Sides.{shape_at, is_section, sides_in, side_in, sides_of, side_of, back_of}
-use Rattle.regions.specs.Touching.{IsStanding, IsTouching, station_pipe, station_place}
+use Rattle.regions.specs.Touching.{IsStanding, station_pipe, station_place}
 use Rattle.regionrun.specs.Lawful.{IsLawful}
 
 -- strand x is a station
@@ -63,7 +63,7 @@ has-station layout mesh x y j q place n left right at lawful is h l e side meets
     let again : side_of layout mesh x c ≡ y = ap (λ (z : ℕ). side_of layout mesh z c) (sym side) ∙ lawful.sides.again y j h l in
     let touch = lawful.touching.touches x c is.there is.kind index in
     let same : OfSection (station_pipe mesh c (shape_at layout x)) touch.place touch.count touch.left touch.right ≡ OfSection q place n left right =
-        sym touch.shape ∙ ap (shape_at layout) again ∙ e in
+    sym touch.shape ∙ ap (shape_at layout) again ∙ e in
     let place_is : touch.place ≡ place = ap place_in same in
     let count_is : touch.count ≡ n = ap count_in same in
     record {

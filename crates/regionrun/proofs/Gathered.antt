@@ -1,8 +1,8 @@
 -- What all strands own, one strand after another.
-use Rattle.std.proofs.Common.{◌≡◌, ℕ, ◌+◌, ◌*◌, ◌<◌, ◌≤◌, inl, inr, Bool, ◌==◌, true, false, length, refl, ap, sym, subst, ◌∙◌, arith, eq-eqb}
+use Rattle.std.proofs.Common.{◌≡◌, ℕ, ◌+◌, ◌*◌, ◌<◌, ◌≤◌, inl, inr, Bool, ◌==◌, true, false, length, refl, arith, eq-eqb}
 use Rattle.std.specs.Prelude.{◌&&◌, ◌||◌, max, nat_lt}
 use Rattle.std.proofs.lemmas.Bool.{cases_lt, le-ltb, lt-ltb, ne_eqb}
-use Rattle.std.proofs.Math.Bool.{and-false, and-true, or-true}
+use Rattle.std.proofs.Math.Bool.{and-false, or-true}
 use Rattle.case_model.specs.declared.meshes.Mesh.{Mesh}
 use Rattle.case_model.specs.PlaceNumbers.{place_at}
 use Rattle.regions.specs.declared.shapes.Layout.{Layout}
@@ -10,7 +10,7 @@ use Rattle.regions.specs.declared.shapes.Shape.{Shape}
 use Rattle.regions.specs.declared.shapes.Shape.TheVariants.{OfNode, OfSeam, OfSection}
 use Rattle.regions.specs.declared.shapes.Spot.{Spot}
 use Rattle.regions.specs.declared.shapes.Spot.TheVariants.{AtNode, Inside}
-use Rattle.regions.specs.Regions.{InRegion, InShape, owner_of}
+use Rattle.regions.specs.Regions.{InRegion, InShape}
 use Rattle.regions.specs.Sides.{is_section, is_section_shape, shape_at}
 use Rattle.schedule.specs.Nets.{regions_of}
 use Rattle.strands.specs.Marks.{or_marked}

@@ -1,6 +1,6 @@
 -- What the regions of a node own: the node itself, and what lies between two fronts of the
 -- stretches at its pipe ends.
-use Rattle.std.proofs.Common.{◌≡◌, ℕ, ◌+◌, ◌-◌, ◌*◌, ◌<◌, ◌≤◌, ◌⊎◌, inl, inr, Bool, true, false, length, refl, ap, sym, subst, ◌∙◌, arith}
+use Rattle.std.proofs.Common.{◌≡◌, ℕ, ◌+◌, ◌-◌, ◌*◌, ◌<◌, ◌≤◌, ◌⊎◌, inl, inr, Bool, true, false, length, ap, sym, subst, ◌∙◌, arith}
 use Rattle.std.specs.Prelude.{if◌then◌else◌}
 use Rattle.case_model.specs.declared.cases.ProbeAt.{ProbeAt}
 use Rattle.case_model.specs.declared.cases.ProbeAt.TheVariants.{OnPipe, OnNode}
@@ -22,7 +22,7 @@ use Rattle.strands.specs.Marks.{Marks, is_between, or_marked}
 use Rattle.strands.specs.Stations.{half}
 use Rattle.regionrun.specs.Lawful.{IsLawful}
 use Rattle.regionrun.specs.Owned.{AreOfRegion, end_place, owned, spot_of}
-use Rattle.regionrun.proofs.Beside.{IsBeside, IsInFan, IsStation, fan-stations, sides-from, stations-fan}
+use Rattle.regionrun.proofs.Beside.{IsBeside, IsStation, fan-stations, sides-from, stations-fan}
 use Rattle.regionrun.proofs.Owning.{owned-next}
 use Rattle.regionrun.proofs.Seams.{fan-in, fan-only}
 use Rattle.regionrun.proofs.Spots.{between-parts, between-true, node-below, node-is, place-below, place-is}

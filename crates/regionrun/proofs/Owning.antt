@@ -1,19 +1,17 @@
 -- What a strand owns grows by the marks of one region after another.
-use Rattle.std.proofs.Common.{◌≡◌, ◌≢◌, ℕ, zero, suc, ◌+◌, ◌*◌, ◌<◌, ◌≤◌, ◌⊎◌, inl, inr, Bool, true, false, ◌==◌, refl, ap, sym, subst, ◌∙◌, arith, eq-eqb, length}
+use Rattle.std.proofs.Common.{◌≡◌, ◌≢◌, ℕ, ◌+◌, ◌*◌, ◌<◌, ◌≤◌, ◌⊎◌, inl, inr, Bool, true, false, ◌==◌, refl, ap, sym, subst, ◌∙◌, arith, eq-eqb, length}
 use Rattle.std.specs.Prelude.{◌||◌, ◌&&◌, nat_lt, max}
 use Rattle.std.proofs.lemmas.Bool.{cases_lt, false_from_ne_true, lt-ltb, le-ltb, ne_eqb}
-use Rattle.std.proofs.lemmas.Bool.Decides.{nat_tests}
 use Rattle.std.proofs.Math.Bool.{or-false, or-true, and-true}
 use Rattle.case_model.specs.declared.cases.ProbeAt.{ProbeAt}
 use Rattle.case_model.specs.declared.cases.ProbeAt.TheVariants.{OnPipe, OnNode}
 use Rattle.case_model.specs.declared.meshes.Mesh.{Mesh}
 use Rattle.case_model.specs.PlaceNumbers.{IsOn, place_at}
 use Rattle.regions.specs.declared.shapes.Layout.{Layout}
-use Rattle.regions.specs.declared.shapes.Spot.{Spot}
 use Rattle.regions.specs.Regions.{HasSpot, InRegion, Owner, owner_of}
 use Rattle.strands.specs.Marks.{Marks, or_marked}
 use Rattle.regionrun.specs.Lawful.{IsLawful}
-use Rattle.regionrun.specs.Owned.{spot_of, owner_at, owned, owned_below, AreOfRegion}
+use Rattle.regionrun.specs.Owned.{spot_of, owned, AreOfRegion}
 
 -- ---- tests
 
@@ -101,7 +99,7 @@ owned-next layout mesh x m marks lawful h of s k end =
             let e : s ≡ 0 = omega arith in
             let z : marks s k ≡ false = false_from_ne_true (marks s k) (λ t. let a = of.later s k t in absurd (omega arith)) in
             let same : owned mesh w x (m + 1) s k ≡ owned mesh w x m s k =
-                ap (λ t. owned mesh w x (m + 1) t k) e ∙ owned-start mesh w x (m + 1) k l ∙ sym (owned-start mesh w x m k l) ∙ ap (λ t. owned mesh w x m t k) (sym e) in
+            ap (λ t. owned mesh w x (m + 1) t k) e ∙ owned-start mesh w x (m + 1) k l ∙ sym (owned-start mesh w x m k l) ∙ ap (λ t. owned mesh w x m t k) (sym e) in
             rw (z) (same ∙ sym (or-false (owned mesh w x m s k)))
         | inl b ↦
             let o = owner_of mesh w (spot_of (place_at mesh k)) s in

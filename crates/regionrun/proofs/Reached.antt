@@ -1,5 +1,5 @@
 -- Where the places lie that strands own.
-use Rattle.std.proofs.Common.{◌≡◌, ℕ, ◌+◌, ◌-◌, ◌*◌, ◌/◌, ◌<◌, ◌≤◌, ◌⊎◌, inl, inr, ◌==◌, true, false, length, refl, ap, sym, subst, ◌∙◌, arith}
+use Rattle.std.proofs.Common.{◌≡◌, ℕ, ◌-◌, ◌*◌, ◌/◌, ◌<◌, ◌≤◌, inl, inr, ◌==◌, true, length, refl, ap, sym, ◌∙◌, arith}
 use Rattle.std.specs.Prelude.{nat_lt}
 use Rattle.std.proofs.lemmas.Bool.{and_parts, cases_lt, eqb-true}
 use Rattle.case_model.specs.declared.cases.ProbeAt.{ProbeAt}
@@ -7,7 +7,6 @@ use Rattle.case_model.specs.declared.cases.ProbeAt.TheVariants.{OnPipe, OnNode}
 use Rattle.case_model.specs.declared.meshes.Mesh.{Mesh}
 use Rattle.case_model.specs.Mesh.{base_of, ends_of, reaches}
 use Rattle.case_model.specs.PlaceNumbers.{IsOn, number_of, place_at}
-use Rattle.fronts.specs.Bands.{from_place}
 use Rattle.regions.specs.declared.shapes.Layout.{Layout}
 use Rattle.regions.specs.declared.shapes.Shape.{Shape}
 use Rattle.regions.specs.declared.shapes.Shape.TheVariants.{OfNode, OfSeam, OfSection}
@@ -15,7 +14,7 @@ use Rattle.regions.specs.Regions.{InRegion, InShape, InStation, owner_of}
 use Rattle.regions.specs.Sides.{end_at, shape_at}
 use Rattle.regions.specs.Touching.{station_pipe, station_place}
 use Rattle.regionrun.specs.Lawful.{IsLawful}
-use Rattle.regionrun.specs.Owned.{IsNear, IsReached, end_place, owned, spot_of}
+use Rattle.regionrun.specs.Owned.{IsReached, end_place, owned, spot_of}
 use Rattle.regionrun.proofs.Beside.{sides-from, stations-fan}
 use Rattle.regionrun.proofs.Nodes.{node-station}
 use Rattle.regionrun.proofs.Owning.{owned-later, owned-out, owned-start, region-is}

@@ -1,5 +1,5 @@
 -- What the regions of a seam own lies between two fronts of its stretch.
-use Rattle.std.proofs.Common.{◌≡◌, ℕ, ◌+◌, ◌-◌, ◌*◌, ◌<◌, ◌≤◌, ◌⊎◌, inl, inr, true, false, length, refl, ap, sym, subst, ◌∙◌, arith}
+use Rattle.std.proofs.Common.{◌≡◌, ℕ, ◌+◌, ◌-◌, ◌*◌, ◌<◌, ◌≤◌, inl, inr, true, length, ap, sym, subst, ◌∙◌, arith}
 use Rattle.std.proofs.lemmas.Bool.{cases_lt}
 use Rattle.case_model.specs.declared.cases.ProbeAt.{ProbeAt}
 use Rattle.case_model.specs.declared.cases.ProbeAt.TheVariants.{OnPipe, OnNode}
@@ -8,7 +8,7 @@ use Rattle.case_model.specs.Mesh.{base_of, reaches}
 use Rattle.case_model.specs.PlaceNumbers.{number_of, place_at}
 use Rattle.fronts.specs.Bands.{from_place}
 use Rattle.fronts.specs.Fronts.{fan}
-use Rattle.fronts.specs.Stretches.{IsStretchOf, count_of}
+use Rattle.fronts.specs.Stretches.{IsStretchOf}
 use Rattle.fronts.specs.declared.stretches.Stretch.{Stretch}
 use Rattle.regions.specs.declared.shapes.Layout.{Layout}
 use Rattle.regions.specs.declared.shapes.Shape.{Shape}
@@ -20,7 +20,7 @@ use Rattle.strands.specs.Marks.{is_between, or_marked}
 use Rattle.strands.specs.Stations.{half, seam_front}
 use Rattle.regionrun.specs.Lawful.{IsLawful}
 use Rattle.regionrun.specs.Owned.{AreOfRegion, owned, spot_of}
-use Rattle.regionrun.proofs.Beside.{IsBeside, IsInFan, IsStation, fan-stations, sides-from, stations-fan}
+use Rattle.regionrun.proofs.Beside.{IsBeside, IsStation, fan-stations, sides-from, stations-fan}
 use Rattle.regionrun.proofs.Owning.{owned-next}
 use Rattle.regionrun.proofs.Spots.{between-parts, between-true, place-below, place-is}
 

@@ -1,7 +1,6 @@
 -- What strands own of the initial row, and where the places lie that they own.
-use Rattle.std.proofs.Common.{◌≡◌, ℕ, zero, suc, ◌+◌, ◌-◌, ◌*◌, ◌<◌, ◌≤◌, ◌⊎◌, inl, inr, ◌==◌, true, false, length, refl, ap, sym, subst, ◌∙◌, arith, eq-eqb}
-use Rattle.std.specs.Prelude.{◌&&◌, ◌||◌, max, nat_lt}
-use Rattle.std.specs.List.{list_any}
+use Rattle.std.proofs.Common.{◌≡◌, ℕ, zero, suc, ◌+◌, ◌-◌, ◌*◌, ◌<◌, ◌≤◌, inl, inr, ◌==◌, true, false, length, refl, ap, sym, subst, ◌∙◌, arith, eq-eqb}
+use Rattle.std.specs.Prelude.{◌&&◌, nat_lt}
 use Rattle.std.proofs.lemmas.Bool.{and_parts, cases_lt, eqb-true, false_from_ne_true, le-ltb, lt-ltb, ltb-true, ne_eqb, or_cases}
 use Rattle.std.proofs.lemmas.List.Folds.{list_any_at}
 use Rattle.std.proofs.Math.Bool.{and-false, or-true}
@@ -11,17 +10,17 @@ use Rattle.case_model.specs.declared.meshes.End.{End}
 use Rattle.case_model.specs.declared.meshes.Mesh.{Mesh}
 use Rattle.case_model.specs.Joints.{no_end}
 use Rattle.case_model.specs.Mesh.{base_of, ends_of, reaches}
-use Rattle.case_model.specs.PlaceNumbers.{IsOn, number_of, place_at}
+use Rattle.case_model.specs.PlaceNumbers.{number_of, place_at}
 use Rattle.case_model.proofs.ListFacts.{any-index}
 use Rattle.fronts.specs.Bands.{from_place}
 use Rattle.regions.specs.declared.shapes.Layout.{Layout}
 use Rattle.regions.specs.declared.shapes.Shape.{Shape}
 use Rattle.regions.specs.declared.shapes.Shape.TheVariants.{OfNode, OfSeam, OfSection}
-use Rattle.regions.specs.Regions.{InRegion, InSection, InShape, InStation, Owner, height, owner_of}
+use Rattle.regions.specs.Regions.{InShape, InStation, Owner, owner_of}
 use Rattle.regions.specs.Sides.{end_at, shape_at}
 use Rattle.regions.specs.Touching.{IsStanding, station_pipe, station_place}
 use Rattle.regionrun.specs.Lawful.{IsLawful}
-use Rattle.regionrun.specs.Owned.{IsNear, IsReached, end_number, end_place, is_own, owned, owner_at, spot_of}
+use Rattle.regionrun.specs.Owned.{end_number, end_place, is_own, owned, spot_of}
 use Rattle.regionrun.proofs.Beside.{fan-stations, sides-from, stations-fan}
 use Rattle.regionrun.proofs.Nodes.{at-most, node-beside, node-stands, node-station}
 use Rattle.regionrun.proofs.Owning.{owned-later, owned-out, owned-start, owner-is, region-is, same-bools}

@@ -1,6 +1,5 @@
 -- What the regions of a section own lies between two fronts of its stretch.
-use Rattle.std.proofs.Common.{◌≡◌, ℕ, zero, suc, ◌+◌, ◌-◌, ◌*◌, ◌<◌, ◌≤◌, inl, inr, true, length, refl, ap, sym, subst, ◌∙◌, arith}
-use Rattle.std.specs.Prelude.{◌↔◌, ⊤}
+use Rattle.std.proofs.Common.{◌≡◌, ℕ, suc, ◌+◌, ◌-◌, ◌*◌, ◌<◌, ◌≤◌, inl, inr, true, length, refl, ap, sym, subst, ◌∙◌, arith}
 use Rattle.std.proofs.lemmas.Bool.{cases_lt}
 use Rattle.std.proofs.Math.Nat.{mul-le-mul_left}
 use Rattle.case_model.specs.declared.cases.ProbeAt.{ProbeAt}
@@ -9,13 +8,12 @@ use Rattle.case_model.specs.declared.meshes.Mesh.{Mesh}
 use Rattle.case_model.specs.Mesh.{base_of, reaches}
 use Rattle.case_model.specs.PlaceNumbers.{number_of, place_at}
 use Rattle.fronts.specs.Fronts.{loaded, risen, tent}
-use Rattle.fronts.specs.Stretches.{IsStretchOf, count_of}
+use Rattle.fronts.specs.Stretches.{IsStretchOf}
 use Rattle.fronts.specs.declared.stretches.Stretch.{Stretch}
 use Rattle.regions.specs.declared.shapes.Layout.{Layout}
 use Rattle.regions.specs.declared.shapes.Shape.{Shape}
 use Rattle.regions.specs.declared.shapes.Shape.TheVariants.{OfSection}
-use Rattle.regions.specs.declared.shapes.Spot.{Spot}
-use Rattle.regions.specs.Regions.{InBand, InRegion, InSection, InShape, InStation, height}
+use Rattle.regions.specs.Regions.{InSection, InShape, InStation, height}
 use Rattle.regions.specs.Sides.{shape_at}
 use Rattle.regions.specs.Touching.{IsStanding}
 use Rattle.strands.specs.Marks.{is_between, or_marked}
@@ -59,12 +57,16 @@ later-fronts w n m = record {
           | inr k ↦ absurd (s.left m (record { after = omega arith; before = omega arith }))
         ]
       ];
-  only = λ y t a b c. (omega arith, omega arith, record {
-    after = omega arith;
-    before = omega arith;
-    left = λ k s. above w n m y y t k (omega arith) (omega arith) (omega arith) s;
-    right = λ k s. above w n m y (n - y) t k (omega arith) (omega arith) (omega arith) s;
-  });
+  only = λ y t a b c. (
+    omega arith,
+    omega arith,
+    record {
+      after = omega arith;
+      before = omega arith;
+      left = λ k s. above w n m y y t k (omega arith) (omega arith) (omega arith) s;
+      right = λ k s. above w n m y (n - y) t k (omega arith) (omega arith) (omega arith) s;
+    },
+  );
 }
 
 -- ---- on the mesh
