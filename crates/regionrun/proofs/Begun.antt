@@ -143,7 +143,7 @@ of-list stretch at d spokes w m node passed here only = record {
       let f = list_any_at (λ x. spoke_marks w m (at x) (stretch x) s k) spokes j d l h in
       rw (f) refl;
   only = λ s k h.
-      elim (or_cases (list_any (λ x. spoke_marks w m (at x) (stretch x) s k) spokes) (passed s k) h) [
+      elim (or_cases (list_any (λ x. spoke_marks w m (at x) (stretch x) s k) spokes) _ h) [
         | inl a ↦ inr (any-index (λ x. spoke_marks w m (at x) (stretch x) s k) spokes d a)
         | inr a ↦ inl (only s k a)
       ];
