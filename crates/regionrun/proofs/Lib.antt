@@ -1,3 +1,5 @@
+mod Handing
+mod Parts
 pub mod Begun
 pub mod Beside
 pub mod Gathered

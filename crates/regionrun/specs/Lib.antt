@@ -1,2 +1,3 @@
+pub mod Handed
 pub mod Lawful
 pub mod Owned

@@ -1,4 +1,4 @@
-//! Which points each strand of a layout owns.
+//! Which points each strand of a layout owns, and what strands hand to one another.
 #![tactic(auto)]
 
 mod lawful;

@@ -18,7 +18,7 @@ handed law stretch true n w s j size a b h =
 handed law stretch false n w s j size a b h =
     h.cell (s + (j + 1) / 2) (n - (j / 2 + 1)) (omega arith) (omega arith) (omega arith) (omega arith)
 
-before-or-at : (i j : ℕ) → i < j + 1 → (i < j) ⊎ (i ≡ j)
+pub before-or-at : (i j : ℕ) → i < j + 1 → (i < j) ⊎ (i ≡ j)
 before-or-at i j h = grind arith
 
 pub handed-more : (law : Meaning) (stretch : Stretch) (left : Bool) (n w s j step place : ℕ) (point : Point)

@@ -1,5 +1,8 @@
 mod Advancing
+mod Fans
+mod Feeding
 mod Handing
 mod Loading
 mod Marking
-mod Seams
+mod Starting
+mod Taking

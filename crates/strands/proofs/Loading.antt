@@ -57,11 +57,11 @@ others-stay left n w s d front x a b h = elim (below (from_end left n x) d) [
 pub with : ℕ → ℕ → (ℕ → ℕ) → ℕ → ℕ
 with place step front x = cond (nat_eq x place) step (front x)
 
-with-here : (place step : ℕ) (front : ℕ → ℕ) → with place step front place ≡ step
+pub with-here : (place step : ℕ) (front : ℕ → ℕ) → with place step front place ≡ step
 unfolding with
 with-here place step front = rw (eq-eqb place place refl) refl
 
-with-there : (place step : ℕ) (front : ℕ → ℕ) (x : ℕ) → x ≢ place → with place step front x ≡ front x
+pub with-there : (place step : ℕ) (front : ℕ → ℕ) (x : ℕ) → x ≢ place → with place step front x ≡ front x
 unfolding with
 with-there place step front x h = rw (ne_eqb x place h) refl
 

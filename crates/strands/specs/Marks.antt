@@ -1,6 +1,7 @@
 -- Points of the rows of a law that are marked by step and place number, and those between two
 -- fronts of a stretch.
-use Rattle.std.specs.Prelude.{ℕ, ◌+◌, ◌-◌, ◌||◌, ◌&&◌, nat_le, nat_lt, Bool, if◌then◌else◌, None}
+use Rattle.std.specs.Prelude.{ℕ, ◌+◌, ◌-◌, ◌==◌, ◌||◌, ◌&&◌, nat_le, nat_lt, Bool, None}
+use Rattle.std.specs.Prelude.{if◌then◌else◌}
 use Rattle.case_model.specs.Meaning.{Meaning}
 use Rattle.envelope.specs.Notings.{Noted}
 use Rattle.envelope.specs.Rows.{rows_noted}
@@ -23,3 +24,7 @@ abbrev pub is_between : Stretch → (ℕ → ℕ) → (ℕ → ℕ) → Marks
 is_between stretch front later s k =
     nat_le stretch.number k && (nat_lt k (stretch.number + count_of stretch)
     && (nat_lt (front (k - stretch.number)) s && nat_le s (later (k - stretch.number))))
+
+-- at step 0 the place numbers from `low` on and below `high`
+abbrev pub start_marks : ℕ → ℕ → Marks
+start_marks low high s k = (s == 0) && (nat_le low k && nat_lt k high)

@@ -97,7 +97,7 @@ fn from_end(left: bool, reaches: usize, distance: usize) -> usize
 }
 
 // Writes the words of a point.
-fn put_point(words: &mut [u64], index: usize, point: &Point)
+pub(crate) fn put_point(words: &mut [u64], index: usize, point: &Point)
     requires inside { 4 * index + 4 ≤ length words.old }
     requires in_range { IsPoint point.now }
     ensures { IsWritten index point.now words.old words.new }
@@ -110,7 +110,7 @@ fn put_point(words: &mut [u64], index: usize, point: &Point)
 }
 
 // The point of these words; Bad where no point has them.
-fn point_in(words: &[u64], index: usize) -> Point
+pub(crate) fn point_in(words: &[u64], index: usize) -> Point
     requires inside { 4 * index + 4 ≤ length words.now }
     ensures point { (point : PointSeen) → IsPoint point → quad words.now index ≡ words_of point →
         result ≡ point }

@@ -2,10 +2,18 @@
 //! its neighbours.
 #![tactic(auto)]
 
+mod besides;
 mod blocks;
+mod ranges;
+mod seams;
 mod sections;
+mod starts;
 mod stations;
+mod tents;
 
+pub use besides::{load_beside, write_beside};
 pub use blocks::{load_side, write_side};
+pub use seams::Seam;
 pub use sections::{advance, advance_region, advance_start};
 pub use stations::{advance_run, advance_seam};
+pub use tents::Section;
