@@ -2,8 +2,14 @@ mod Handing
 mod Parts
 mod Sizing
 mod Turning
+pub mod Begun
 pub mod Beside
+pub mod Gathered
+pub mod Nodes
 pub mod Owning
+pub mod Reached
 pub mod Seams
+pub mod Spanned
 pub mod Spots
+pub mod Starts
 pub mod Tents
