@@ -7,6 +7,7 @@ mod frontiers;
 mod gates;
 mod lawful;
 mod one_strand;
+mod ranges;
 mod serial;
 mod sizes;
 
