@@ -1,8 +1,7 @@
 -- Strands by kind: the places of a body are those of its strand's shape, and what it takes in,
 -- is computed to and hands on is what the layout says of that strand.
-use Rattle.std.proofs.Common.{◌≡◌, ℕ, zero, suc, ◌+◌, ◌-◌, ◌*◌, ◌/◌, ◌<◌, ◌≤◌, ◌==◌, Bool, true, false}
+use Rattle.std.proofs.Common.{◌≡◌, ℕ, zero, suc, ◌+◌, ◌-◌, ◌*◌, ◌/◌, ◌<◌, ◌≤◌, ◌==◌, true, false}
 use Rattle.std.proofs.Common.{length, List, [], ◌∷◌, refl, ap, sym, subst, ◌∙◌, arith, Some}
-use Rattle.std.specs.Prelude.{if◌then◌else◌}
 use Rattle.case_model.specs.Meaning.{Meaning}
 use Rattle.case_model.specs.Mesh.{base_of}
 use Rattle.case_model.specs.declared.meshes.Mesh.{Mesh}

@@ -10,17 +10,18 @@ use Rattle.envelope.specs.Notings.{Noted}
 use Rattle.envelope.specs.Rows.{rows_noted}
 use Rattle.envelope.specs.declared.folds.Fold.{Fold}
 use Rattle.regions.specs.Needs.{needs_of}
-use Rattle.regions.specs.Sides.{is_section, shape_at, sides_of}
+use Rattle.regions.specs.Sides.{is_section, shape_at}
 use Rattle.regions.specs.declared.shapes.Layout.{Layout}
-use Rattle.regionrun.proofs.ByKind.{body-fits, body-incoming, body-kind, body-later, body-noted}
+use Rattle.regionrun.proofs.ByKind.{body-fits, body-incoming, body-kind, body-later, body-noted, body-outgoing}
 use Rattle.regionrun.proofs.ByKind.{body-open, body-owned, body-shut, body-sides, same-body}
 use Rattle.regionrun.proofs.ByKind.{same-kind}
-use Rattle.regionrun.specs.Bodies.{FitsWindow, HasIncoming, IsComputed, IsFedBody, IsNoting, IsOpen}
-use Rattle.regionrun.specs.Bodies.{IsSameBody, body_marks, has_block, is_section_body, side_count}
+use Rattle.regionrun.specs.Bodies.{FitsWindow, HasIncoming, HasOutgoing, IsComputed, IsFedBody, IsNoting, IsOpen}
+use Rattle.regionrun.specs.Bodies.{IsSameBody, body_marks, is_section_body, side_count}
+use Rattle.regionrun.specs.Handed.{IsBlockFor}
 use Rattle.regionrun.specs.Lawful.{IsLawful}
 use Rattle.regionrun.specs.Owned.{owned}
-use Rattle.regionrun.specs.Right.{IsFed, IsReadySome, IsRight, IsRightAt, IsWanted, Keeps}
-use Rattle.regionrun.specs.Right.{has_loaded, region_count, strand_spans}
+use Rattle.regionrun.specs.Right.{IsReadySome, IsRight, IsRightAt, IsWanted, Keeps}
+use Rattle.regionrun.specs.Right.{has_loaded, region_count}
 use Rattle.regionrun.specs.declared.bodies.Body.{Body}
 use Rattle.regionrun.specs.declared.frontiers.Frontier.{Frontier}
 use Rattle.schedule.specs.Nets.{regions_of}
@@ -68,17 +69,17 @@ taken law layout old new side words lawful wanted same opens =
     let m = old.computed in
     let places = right.keeps.places in
     let need : needs_of (is_section_body old.body) m ≡ Some wanted.block =
-        subst (λ (k : Bool). needs_of k m ≡ Some wanted.block)
-        (body-kind layout law.mesh x old.body right.there places) wanted.needed in
+    subst (λ (k : Bool). needs_of k m ≡ Some wanted.block)
+    (body-kind layout law.mesh x old.body right.there places) wanted.needed in
     let some : is_section_body old.body ≡ true → 1 ≤ m =
-        later-if-needed (is_section_body old.body) m wanted.block need in
+    later-if-needed (is_section_body old.body) m wanted.block need in
     let open_old : IsOpen law old.window m old.body =
-        subst (λ (w : ℕ). IsOpen law w m old.body) (sym right.window_is)
-        (body-open law layout.window m old.body some right.keeps.points) in
+    subst (λ (w : ℕ). IsOpen law w m old.body) (sym right.window_is)
+    (body-open law layout.window m old.body some right.keeps.points) in
     let has : HasIncoming law old.window m side old.body words =
-        subst (λ (w : ℕ). HasIncoming law w m side old.body words) (sym right.window_is)
-        (body-incoming law layout x m wanted.block side old.body words lawful right.there places
-        (wanted-side law layout old side words wanted) need wanted.handed) in
+    subst (λ (w : ℕ). HasIncoming law w m side old.body words) (sym right.window_is)
+    (body-incoming law layout x m wanted.block side old.body words lawful right.there places
+    (wanted-side law layout old side words wanted) need wanted.handed) in
     record {
       places = same-body law.mesh layout.window (shape_at layout x) old.body new same places;
       points = body-shut law layout.window m new (λ e. some (sym (same-kind old.body new same) ∙ e))
@@ -188,8 +189,8 @@ next-stands law layout old body fold lawful ready equal right next =
     let was = owned law.mesh w x m in
     let marks = body_marks w old.body m in
     let few : m < regions_of (is_section_body old.body) layout.windows =
-        subst (λ (n : ℕ). m < regions_of (is_section_body old.body) n) right.windows_are
-        (ready-below law old ready) in
+    subst (λ (n : ℕ). m < regions_of (is_section_body old.body) n) right.windows_are
+    (ready-below law old ready) in
     equal (marked law (or_marked was marks)) (marked law (owned law.mesh w x (m + 1)))
     (λ s k l i. same-marked law (or_marked was marks) (owned law.mesh w x (m + 1)) s k
     (sym (body-owned layout law.mesh x m old.body lawful right.there right.keeps.places few s k
@@ -203,3 +204,16 @@ next-regions law layout old ready right =
     let below = ready-below law old ready in
     let count = right-count law layout old.computed old right in
     omega arith
+
+-- ---- what is handed on
+
+pub right-outgoing : (law : Meaning) (layout : Layout) (c m side : ℕ) (frontier : Frontier)
+    (words : List ℕ) → IsLawful layout law.mesh
+    → IsRightAt law layout c frontier → side < side_count frontier.body
+    → length words ≡ 4 * frontier.window
+    → HasOutgoing law frontier.window m side frontier.body words
+    → IsBlockFor law layout frontier.number side m words
+right-outgoing law layout c m side frontier words lawful right here size has =
+    body-outgoing law layout frontier.number m side frontier.body words lawful right.there
+    right.keeps.places here (size ∙ ap (λ (w : ℕ). 4 * w) right.window_is)
+    (subst (λ (w : ℕ). HasOutgoing law w m side frontier.body words) right.window_is has)

@@ -16,7 +16,6 @@ use Rattle.strands.specs.Sections.{NotesInside}
 use Rattle.strands.specs.Stations.{NotesTriangles, half, seam_front}
 use Rattle.strands.specs.Tents.{IsFreshSection, IsSectionAt, IsUnfed}
 use Rattle.strands.specs.Words.{HasPoints, section_side, station_side}
-use Rattle.strands.specs.declared.seams.Seam.{Seam}
 use Rattle.strands.specs.declared.tents.Section.{Section}
 
 abbrev pub is_section_body : Body → Bool

@@ -65,13 +65,7 @@ impl Body {
     }
 
     /// Computes a region, and notes it.
-    pub(crate) fn advance<L: Law>(
-        &mut self,
-        law: &L,
-        window: usize,
-        region: u64,
-        fold: &mut Fold,
-    )
+    pub(crate) fn advance<L: Law>(&mut self, law: &L, window: usize, region: u64, fold: &mut Fold)
         requires some { 1 ≤ window }
         requires few_steps { window ≤ 256 }
         requires few { region ≤ 100_000_001 }

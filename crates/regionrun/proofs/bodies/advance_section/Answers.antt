@@ -1,4 +1,4 @@
-use Rattle.std.proofs.Common.{◌≡◌, ℕ, suc, ◌-◌, ◌+◌, ◌*◌, sym, subst, arith}
+use Rattle.std.proofs.Common.{◌≡◌, ℕ, suc, ◌-◌, ◌+◌, sym, subst, arith}
 use Rattle.envelope.specs.Folds.{Stands}
 use Rattle.fronts.specs.Fronts.{loaded, tent}
 use Rattle.fronts.specs.Stretches.{count_of}

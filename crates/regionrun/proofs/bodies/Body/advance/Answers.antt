@@ -19,7 +19,7 @@ returns-in-OfSeam-clause-stands g c = λ marks st.
     let w = c.args.window in
     let stretch = c.in-OfSeam.seam.stretch in
     let e : c.start-start.result ≡ c.args.region * w =
-        c.start-start.ensures.is ∙ ap (λ (z : Body). window_start z w c.args.region) c.in-OfSeam.is in
+    c.start-start.ensures.is ∙ ap (λ (z : Body). window_start z w c.args.region) c.in-OfSeam.is in
     subst (λ (z : Body). Stands c.compute.new.fold
     (marked law (or_marked marks (body_marks w z c.args.region))))
     (sym c.in-OfSeam.is)

@@ -1,8 +1,7 @@
-use Rattle.std.proofs.Common.{◌≡◌, ℕ, ◌∙◌, subst}
+use Rattle.std.proofs.Common.{◌∙◌}
 use Rattle.regionrun.proofs.ByKind.{same-sides}
 use Rattle.regionrun.proofs.Keeping.{IsNext, next-keeps, next-regions, next-stands, next-steps}
-use Rattle.regionrun.proofs.Keeping.{ready-fed, ready-few, right-fits, right-noted, right-sides}
-use Rattle.regionrun.specs.Right.{IsReadySome}
+use Rattle.regionrun.proofs.Keeping.{ready-fed, right-fits, right-noted, right-sides}
 use Rattle.regionrun.proofs.frontiers.Frontier.advance.Goals as goal
 
 pub advance-requires-clause-fits : goal.advance-requires-clause-fits

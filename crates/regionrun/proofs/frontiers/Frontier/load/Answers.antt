@@ -1,4 +1,4 @@
-use Rattle.std.proofs.Common.{◌≡◌, ℕ, ◌<◌, subst}
+use Rattle.std.proofs.Common.{ℕ, ◌<◌, subst}
 use Rattle.regionrun.proofs.Keeping.{right-sides, taken, wanted-side}
 use Rattle.regionrun.specs.Right.{has_loaded}
 use Rattle.regionrun.proofs.frontiers.Frontier.load.Goals as goal

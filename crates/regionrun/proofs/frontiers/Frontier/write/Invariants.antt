@@ -1,4 +1,4 @@
-use Rattle.std.proofs.Common.{ℕ, ◌+◌}
+use Rattle.std.proofs.Common.{◌+◌}
 use Rattle.case_model.specs.Meaning.{Meaning}
 use Rattle.regionrun.specs.Bodies.{IsComputed}
 use Rattle.regionrun.specs.Handed.{HasParts}
