@@ -1,6 +1,7 @@
 mod Handing
 mod Parts
 mod Sizing
+mod Stepping
 mod Turning
 pub mod Begun
 pub mod Beside

@@ -108,14 +108,14 @@ needs-section (suc m) b need = let e : m ≡ b = cc in omega arith
 needs-station : (m b : ℕ) → needs_of false m ≡ Some b → m ≡ b
 needs-station m b need = cc
 
-even : (t : ℕ) → is_even t ≡ true → t % 2 ≡ 0
+pub even : (t : ℕ) → is_even t ≡ true → t % 2 ≡ 0
 even t e = eqb-true (t % 2) 0 e
 
 flipped : (b : Bool) → not b ≡ true → b ≡ false
 flipped true e = cc
 flipped false e = refl
 
-odd : (t : ℕ) → not (is_even t) ≡ true → t % 2 ≡ 1
+pub odd : (t : ℕ) → not (is_even t) ≡ true → t % 2 ≡ 1
 odd t e =
     let n : t % 2 ≡ 0 → ⊥ = eqb-false (t % 2) 0 (flipped (is_even t) e) in
     rest (t % 2) n (omega arith)
