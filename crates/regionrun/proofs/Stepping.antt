@@ -66,6 +66,13 @@ strand-before strand_of entered_of law layout t x strands d all there has =
     subst (λ c. IsStrandAt strand_of entered_of law layout x c (slice_index_or strands x d))
     (count-now layout t x has) (all.strand x d there)
 
+pub room-words : (law : Meaning) (layout : Layout) (x : ℕ) (blocks : List (List ℕ))
+    (words : List ℕ)
+    → HaveRoom layout law.mesh (length layout.shapes) blocks → x < length layout.shapes
+    → words ≡ slice_index_or blocks x []
+    → length words ≡ 4 * layout.window * sides_of layout law.mesh x
+room-words law layout x blocks words room there is = ap length is ∙ room.words x there
+
 pub room-is : (law : Meaning) (layout : Layout) (frontier : Frontier) (x : ℕ)
     (blocks : List (List ℕ)) (words : List ℕ)
     → IsRight law layout frontier → frontier.number ≡ x
