@@ -1,5 +1,6 @@
 -- The places around a station: which section has them, and at which side.
-use Rattle.std.proofs.Common.{◌≡◌, ℕ, ◌+◌, ◌-◌, ◌*◌, ◌<◌, ◌≤◌, ◌⊎◌, inl, inr, true, false, length, refl, ap, sym, subst, ◌∙◌, arith}
+use Rattle.std.proofs.Common.{◌≡◌, ℕ, ◌+◌, ◌-◌, ◌<◌, ◌≤◌, ◌⊎◌, inl, inr, false, length, refl, ap}
+use Rattle.std.proofs.Common.{sym, subst, ◌∙◌, arith}
 use Rattle.case_model.specs.declared.meshes.Mesh.{Mesh}
 use Rattle.fronts.specs.Bands.{from_place}
 use Rattle.regions.specs.declared.shapes.Layout.{Layout}
@@ -7,7 +8,7 @@ use Rattle.regions.specs.declared.shapes.Shape.{Shape}
 use Rattle.regions.specs.declared.shapes.Shape.TheVariants.{OfNode, OfSeam, OfSection}
 use Rattle.regions.specs.Regions.{InStation, InStationBy, InStations}
 use Rattle.regions.specs.Sides.{shape_at, is_section, sides_in, side_in, sides_of, side_of, back_of}
-use Rattle.regions.specs.Touching.{IsStanding, IsTouching, station_pipe, station_place}
+use Rattle.regions.specs.Touching.{IsStanding, station_pipe, station_place}
 use Rattle.regionrun.specs.Lawful.{IsLawful}
 
 -- strand x is a station
@@ -53,17 +54,23 @@ count_in (OfNode node) = 0
 count_in (OfSeam pipe place left right) = 0
 count_in (OfSection pipe place count left right) = count
 
-has-station : (layout : Layout) (mesh : Mesh) (x y j q place n left right at : ℕ) → IsLawful layout mesh → IsStation layout x
-    → y < length layout.shapes → j < sides_of layout mesh y → shape_at layout y ≡ OfSection q place n left right → side_of layout mesh y j ≡ x
+has-station : (layout : Layout) (mesh : Mesh) (x y j q place n left right at : ℕ)
+    → IsLawful layout mesh → IsStation layout x
+    → y < length layout.shapes → j < sides_of layout mesh y
+    → shape_at layout y ≡ OfSection q place n left right → side_of layout mesh y j ≡ x
     → ((j ≡ 0) × (at ≡ place)) ⊎ ((j ≡ 1) × (at ≡ place + n)) → HasStation layout mesh j x q at
 has-station layout mesh x y j q place n left right at lawful is h l e side meets =
     let c : ℕ = back_of layout mesh y j in
-    let index : c < sides_of layout mesh x = subst (λ (z : ℕ). c < sides_of layout mesh z) side (lawful.sides.index y j h l) in
-    let back : back_of layout mesh x c ≡ j = ap (λ (z : ℕ). back_of layout mesh z c) (sym side) ∙ lawful.sides.twice y j h l in
-    let again : side_of layout mesh x c ≡ y = ap (λ (z : ℕ). side_of layout mesh z c) (sym side) ∙ lawful.sides.again y j h l in
+    let index : c < sides_of layout mesh x =
+    subst (λ (z : ℕ). c < sides_of layout mesh z) side (lawful.sides.index y j h l) in
+    let back : back_of layout mesh x c ≡ j =
+    ap (λ (z : ℕ). back_of layout mesh z c) (sym side) ∙ lawful.sides.twice y j h l in
+    let again : side_of layout mesh x c ≡ y =
+    ap (λ (z : ℕ). side_of layout mesh z c) (sym side) ∙ lawful.sides.again y j h l in
     let touch = lawful.touching.touches x c is.there is.kind index in
-    let same : OfSection (station_pipe mesh c (shape_at layout x)) touch.place touch.count touch.left touch.right ≡ OfSection q place n left right =
-        sym touch.shape ∙ ap (shape_at layout) again ∙ e in
+    let same : OfSection (station_pipe mesh c (shape_at layout x)) touch.place touch.count
+    touch.left touch.right ≡ OfSection q place n left right =
+    sym touch.shape ∙ ap (shape_at layout) again ∙ e in
     let place_is : touch.place ≡ place = ap place_in same in
     let count_is : touch.count ≡ n = ap count_in same in
     record {
@@ -83,17 +90,20 @@ has-station layout mesh x y j q place n left right at lawful is h l e side meets
       ];
     }
 
-pub side-from : (layout : Layout) (mesh : Mesh) (y j : ℕ) (s : Shape) → shape_at layout y ≡ s → side_of layout mesh y j ≡ side_in mesh layout.window j s
+pub side-from : (layout : Layout) (mesh : Mesh) (y j : ℕ) (s : Shape) → shape_at layout y ≡ s
+    → side_of layout mesh y j ≡ side_in mesh layout.window j s
 unfolding side_of
 side-from layout mesh y j s e = ap (side_in mesh layout.window j) e
 
-pub sides-from : (layout : Layout) (mesh : Mesh) (y : ℕ) (s : Shape) → shape_at layout y ≡ s → sides_of layout mesh y ≡ sides_in mesh s
+pub sides-from : (layout : Layout) (mesh : Mesh) (y : ℕ) (s : Shape) → shape_at layout y ≡ s
+    → sides_of layout mesh y ≡ sides_in mesh s
 unfolding sides_of
 sides-from layout mesh y s e = ap (sides_in mesh) e
 
 -- ---- the triangles of a station
 
-fan-by : (layout : Layout) (mesh : Mesh) (x m p i t y : ℕ) (s : Shape) → IsLawful layout mesh → IsStation layout x → m < layout.windows → y < length layout.shapes
+fan-by : (layout : Layout) (mesh : Mesh) (x m p i t y : ℕ) (s : Shape) → IsLawful layout mesh
+    → IsStation layout x → m < layout.windows → y < length layout.shapes
     → shape_at layout y ≡ s → InStationBy layout.window x m p i t s → IsInFan layout mesh x m p i t
 fan-by layout mesh x m p i t y (OfNode node) lawful is few h e b = absurd b
 fan-by layout mesh x m p i t y (OfSeam pipe place left right) lawful is few h e b = absurd b
@@ -103,30 +113,47 @@ fan-by layout mesh x m p i t y (OfSection q place n left right) lawful is few h 
     let high : i ≤ place + n = b.2 in
     elim b.3 [
       | inl a ↦
-          let r = has-station layout mesh x y 0 q place n left right place lawful is h (omega arith) e (side-from layout mesh y 0 _ e ∙ a.0) (inl (refl, refl)) in
+          let r = has-station layout mesh x y 0 q place n left right place lawful is h (omega arith)
+          e (side-from layout mesh y 0 _ e ∙ a.0) (inl (refl, refl)) in
           let z = r.place in
           record {
             c = r.c;
-            beside = record { index = r.index; pipe = r.pipe ∙ b.0; side = inl (r.back, omega arith) };
+            beside = record {
+              index = r.index;
+              pipe = r.pipe ∙ b.0;
+              side =
+                  inl (r.back, omega arith);
+            };
             few = few;
-            at = let d : i - place ≡ from_place (station_place mesh r.c (shape_at layout x)) i = omega arith in subst (λ (u : ℕ). InStation layout.window m u t) d a.1;
+            at = let d : i - place ≡ from_place (station_place mesh r.c (shape_at layout x)) i =
+                omega arith in subst (λ (u : ℕ). InStation layout.window m u t) d a.1;
           }
       | inr a ↦
-          let r = has-station layout mesh x y 1 q place n left right (place + n) lawful is h (omega arith) e (side-from layout mesh y 1 _ e ∙ a.0) (inr (refl, refl)) in
+          let r = has-station layout mesh x y 1 q place n left right (place + n) lawful is h
+          (omega arith) e (side-from layout mesh y 1 _ e ∙ a.0) (inr (refl, refl)) in
           let z = r.place in
           record {
             c = r.c;
-            beside = record { index = r.index; pipe = r.pipe ∙ b.0; side = inr (r.back, omega arith) };
+            beside = record {
+              index = r.index;
+              pipe = r.pipe ∙ b.0;
+              side =
+                  inr (r.back, omega arith);
+            };
             few = few;
-            at = let d : place + n - i ≡ from_place (station_place mesh r.c (shape_at layout x)) i = omega arith in subst (λ (u : ℕ). InStation layout.window m u t) d a.1;
+            at = let d : place + n - i ≡ from_place (station_place mesh r.c (shape_at layout x)) i =
+                omega arith in subst (λ (u : ℕ). InStation layout.window m u t) d a.1;
           }
     ]
 
-pub stations-fan : (layout : Layout) (mesh : Mesh) (x m p i t : ℕ) → IsLawful layout mesh → IsStation layout x → InStations layout x m p i t → IsInFan layout mesh x m p i t
+pub stations-fan : (layout : Layout) (mesh : Mesh) (x m p i t : ℕ) → IsLawful layout mesh
+    → IsStation layout x → InStations layout x m p i t → IsInFan layout mesh x m p i t
 stations-fan layout mesh x m p i t lawful is st =
-    fan-by layout mesh x m p i t st.section (shape_at layout st.section) lawful is st.region st.there refl st.by
+    fan-by layout mesh x m p i t st.section (shape_at layout st.section) lawful is st.region
+    st.there refl st.by
 
-pub fan-stations : (layout : Layout) (mesh : Mesh) (x m p i t : ℕ) → IsLawful layout mesh → IsStation layout x → IsInFan layout mesh x m p i t → InStations layout x m p i t
+pub fan-stations : (layout : Layout) (mesh : Mesh) (x m p i t : ℕ) → IsLawful layout mesh
+    → IsStation layout x → IsInFan layout mesh x m p i t → InStations layout x m p i t
 fan-stations layout mesh x m p i t lawful is f =
     let w : ℕ = layout.window in
     let c : ℕ = f.c in
@@ -149,18 +176,30 @@ fan-stations layout mesh x m p i t lawful is f =
           | inl b ↦
               let z = b.1 in
               let l = a.1 in
-              let left_is : touch.left ≡ x = sym (side-from layout mesh y 0 _ touch.shape) ∙ ap (side_of layout mesh y) (sym a.0) ∙ again in
-              let d : from_place at i ≡ i - touch.place = omega arith in
-              (f.beside.pipe, omega arith, omega arith, inl (left_is, subst (λ (u : ℕ). InStation w m u t) d f.at))
+              let left_is : touch.left ≡ x =
+              sym (side-from layout mesh y 0 _ touch.shape)
+              ∙ ap (side_of layout mesh y) (sym a.0) ∙ again in
+              let d : from_place at i ≡ i - touch.place = omega arith in (
+                f.beside.pipe,
+                omega arith,
+                omega arith,
+                inl (left_is, subst (λ (u : ℕ). InStation w m u t) d f.at),
+              )
         ]
         | inr a ↦ elim touch.meets [
           | inl b ↦ let u = a.0 in let v = b.0 in absurd (omega arith)
           | inr b ↦
               let z = b.1 in
               let l = a.1 in
-              let right_is : touch.right ≡ x = sym (side-from layout mesh y 1 _ touch.shape) ∙ ap (side_of layout mesh y) (sym a.0) ∙ again in
-              let d : from_place at i ≡ touch.place + touch.count - i = omega arith in
-              (f.beside.pipe, omega arith, omega arith, inr (right_is, subst (λ (u : ℕ). InStation w m u t) d f.at))
+              let right_is : touch.right ≡ x =
+              sym (side-from layout mesh y 1 _ touch.shape)
+              ∙ ap (side_of layout mesh y) (sym a.0) ∙ again in
+              let d : from_place at i ≡ touch.place + touch.count - i = omega arith in (
+                f.beside.pipe,
+                omega arith,
+                omega arith,
+                inr (right_is, subst (λ (u : ℕ). InStation w m u t) d f.at),
+              )
         ]
       ]);
     }

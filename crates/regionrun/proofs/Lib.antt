@@ -3,7 +3,11 @@ mod Parts
 mod Sizing
 mod Turning
 pub mod Beside
+pub mod Gathered
+pub mod Nodes
 pub mod Owning
+pub mod Reached
 pub mod Seams
 pub mod Spots
+pub mod Starts
 pub mod Tents

@@ -1,8 +1,7 @@
 -- Places of stretches as numbers and as spots.
-use Rattle.std.proofs.Common.{◌≡◌, ℕ, ◌+◌, ◌-◌, ◌<◌, ◌≤◌, true, length, refl, ap, sym, subst, ◌∙◌, arith}
+use Rattle.std.proofs.Common.{◌≡◌, ℕ, ◌+◌, ◌-◌, ◌<◌, ◌≤◌, true, length, refl, ap, ◌∙◌, arith}
 use Rattle.std.specs.Prelude.{nat_le, nat_lt}
 use Rattle.std.proofs.lemmas.Bool.{and_parts, le-leb, leb-true, lt-ltb, ltb-true}
-use Rattle.case_model.specs.declared.cases.ProbeAt.{ProbeAt}
 use Rattle.case_model.specs.declared.cases.ProbeAt.TheVariants.{OnPipe, OnNode}
 use Rattle.case_model.specs.declared.meshes.Mesh.{Mesh}
 use Rattle.case_model.specs.Mesh.{base_of, reaches}
@@ -15,8 +14,10 @@ use Rattle.regionrun.specs.Lawful.{IsLawful}
 
 -- ---- what lies between two fronts
 
-pub between-true : (stretch : Stretch) (front later : ℕ → ℕ) (s k : ℕ) → stretch.number ≤ k → k < stretch.number + count_of stretch
-    → front (k - stretch.number) < s → s ≤ later (k - stretch.number) → is_between stretch front later s k ≡ true
+pub between-true : (stretch : Stretch) (front later : ℕ → ℕ) (s k : ℕ) → stretch.number ≤ k
+    → k < stretch.number + count_of stretch
+    → front (k - stretch.number) < s → s ≤ later (k - stretch.number)
+    → is_between stretch front later s k ≡ true
 between-true stretch front later s k a b c d =
     rw (
       le-leb stretch.number k a,
@@ -33,14 +34,16 @@ pub record IsBetween (stretch : Stretch) (front later : ℕ → ℕ) (s k : ℕ)
   pub after : front place < s
   pub before : s ≤ later place
 
-pub between-parts : (stretch : Stretch) (front later : ℕ → ℕ) (s k : ℕ) → is_between stretch front later s k ≡ true → IsBetween stretch front later s k
+pub between-parts : (stretch : Stretch) (front later : ℕ → ℕ) (s k : ℕ)
+    → is_between stretch front later s k ≡ true → IsBetween stretch front later s k
 between-parts stretch front later s k h =
     let y : ℕ = k - stretch.number in
     let a = and_parts (nat_le stretch.number k) _ h in
     let b = and_parts (nat_lt k (stretch.number + count_of stretch)) _ a.1 in
     let c = and_parts (nat_lt (front y) s) _ b.1 in
     let low : stretch.number ≤ k = leb-true stretch.number k a.0 in
-    let high : k < stretch.number + count_of stretch = ltb-true k (stretch.number + count_of stretch) b.0 in
+    let high : k < stretch.number + count_of stretch =
+    ltb-true k (stretch.number + count_of stretch) b.0 in
     record {
       place = y;
       number = omega arith;
@@ -51,15 +54,21 @@ between-parts stretch front later s k h =
 
 -- ---- the place of a number
 
-pub place-is : (layout : Layout) (mesh : Mesh) (p i k : ℕ) → IsLawful layout mesh → p < length mesh.pipes → i ≤ reaches mesh p → k ≡ base_of mesh p + i
+pub place-is : (layout : Layout) (mesh : Mesh) (p i k : ℕ) → IsLawful layout mesh
+    → p < length mesh.pipes → i ≤ reaches mesh p → k ≡ base_of mesh p + i
     → place_at mesh k ≡ OnPipe p i
-place-is layout mesh p i k lawful h b e = ap (place_at mesh) e ∙ lawful.told.place (OnPipe p i) (h, b)
+place-is layout mesh p i k lawful h b e =
+    ap (place_at mesh) e ∙ lawful.told.place (OnPipe p i) (h, b)
 
-pub place-below : (layout : Layout) (mesh : Mesh) (p i k : ℕ) → IsLawful layout mesh → p < length mesh.pipes → i ≤ reaches mesh p → k ≡ base_of mesh p + i → k < mesh.places
-place-below layout mesh p i k lawful h b e = let l = lawful.told.below (OnPipe p i) (h, b) in omega arith
+pub place-below : (layout : Layout) (mesh : Mesh) (p i k : ℕ) → IsLawful layout mesh
+    → p < length mesh.pipes → i ≤ reaches mesh p → k ≡ base_of mesh p + i → k < mesh.places
+place-below layout mesh p i k lawful h b e = let l = lawful.told.below (OnPipe p i) (h, b) in
+    omega arith
 
-pub node-is : (layout : Layout) (mesh : Mesh) (k : ℕ) → IsLawful layout mesh → k < length mesh.ends → place_at mesh k ≡ OnNode k
+pub node-is : (layout : Layout) (mesh : Mesh) (k : ℕ) → IsLawful layout mesh → k < length mesh.ends
+    → place_at mesh k ≡ OnNode k
 node-is layout mesh k lawful h = lawful.told.place (OnNode k) h
 
-pub node-below : (layout : Layout) (mesh : Mesh) (k : ℕ) → IsLawful layout mesh → k < length mesh.ends → k < mesh.places
+pub node-below : (layout : Layout) (mesh : Mesh) (k : ℕ) → IsLawful layout mesh
+    → k < length mesh.ends → k < mesh.places
 node-below layout mesh k lawful h = lawful.told.below (OnNode k) h

@@ -102,10 +102,12 @@ laid_enough layout mesh l =
     let c = l.cut in
     subst (λ (x : Layout). AreEnough x mesh) (sym c.layout_is) (enough l.case.steps c.wish mesh c.accepted.good (wired_for l.case mesh c.accepted) c.some)
 
-pub laid_touching : (layout : Layout) (mesh : Mesh) → IsLaidOut layout mesh → AreTouching layout mesh
+pub laid_touching : (layout : Layout) (mesh : Mesh) → IsLaidOut layout mesh
+    → AreTouching layout mesh
 laid_touching layout mesh l =
     let c = l.cut in
-    subst (λ (x : Layout). AreTouching x mesh) (sym c.layout_is) (all-touching l.case.steps c.wish mesh c.accepted.good c.some)
+    subst (λ (x : Layout). AreTouching x mesh) (sym c.layout_is)
+    (all-touching l.case.steps c.wish mesh c.accepted.good c.some)
 
 -- ---- its windows
 
