@@ -4,3 +4,4 @@ pub mod Lawful
 pub mod Owned
 pub mod Right
 pub mod Stubs
+pub mod Surveys

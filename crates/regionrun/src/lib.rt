@@ -9,8 +9,11 @@ mod lawful;
 mod one_strand;
 mod serial;
 mod sizes;
+mod strand_folds;
+mod surveys;
 
 pub use gates::{EntryStub, Gate, OpenGate, OpenStub};
 pub use lawful::layouts_are_lawful;
 pub use one_strand::Strand;
 pub use serial::run_serial;
+pub use surveys::Survey;
