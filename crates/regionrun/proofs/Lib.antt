@@ -4,6 +4,7 @@ mod Sizing
 mod Turning
 pub mod Beside
 pub mod Gathered
+pub mod Merging
 pub mod Nodes
 pub mod Owning
 pub mod Reached

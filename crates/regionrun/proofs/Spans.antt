@@ -5,7 +5,8 @@ use Rattle.std.proofs.Common.{subst, refl, ◌∙◌, arith}
 use Rattle.std.specs.List.{filter, sum_by}
 use Rattle.std.proofs.lemmas.List.{get_or-map, length-map}
 use Rattle.std.proofs.lemmas.List.Elements.{filter_passes}
-use Rattle.std.proofs.lemmas.List.Sums.{count_by-le-length, length-filter, sum_by-take-le, sum_by_more}
+use Rattle.std.proofs.lemmas.List.Sums.{count_by-le-length, length-filter, sum_by-take-le}
+use Rattle.std.proofs.lemmas.List.Sums.{sum_by_more}
 use Rattle.std.proofs.lemmas.Nat.{mul-le}
 use Rattle.case_model.specs.declared.cases.Case.{Case}
 use Rattle.case_model.specs.declared.cases.Probe.{Probe}
@@ -172,7 +173,8 @@ node-apart : (mesh : Mesh) (w node i j : ℕ) → IsNumbered mesh → 1 ≤ w
     → ((i j : ℕ) → i < j → j < length (ends_of mesh node)
     → IsBefore (end_at mesh node i) (end_at mesh node j))
     → i < j → j < length (ends_of mesh node) + 1
-    → IsApart (get_or (node_spans mesh w node) i no_span) (get_or (node_spans mesh w node) j no_span)
+    → IsApart (get_or (node_spans mesh w node) i no_span)
+    (get_or (node_spans mesh w node) j no_span)
 node-apart mesh w node i zero numbered some has before l h = absurd (omega arith)
 node-apart mesh w node zero (suc j) numbered some has before l h =
     let b : j < length (ends_of mesh node) = omega arith in

@@ -5,3 +5,4 @@ pub mod Owned
 pub mod Right
 pub mod Stubs
 pub mod Surveys
+pub mod Gathering
