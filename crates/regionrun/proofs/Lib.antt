@@ -1,7 +1,9 @@
 mod Handing
 mod Parts
 mod Sizing
+mod Stepping
 mod Turning
+pub mod Begun
 pub mod Beside
 pub mod Gathered
 pub mod Merging
@@ -10,6 +12,7 @@ pub mod Owning
 pub mod Reached
 pub mod Seams
 pub mod Spans
+pub mod Spanned
 pub mod Spots
 pub mod Starts
 pub mod Tents

@@ -5,10 +5,10 @@ use Rattle.case_model.specs.declared.meshes.Mesh.{Mesh}
 use Rattle.case_model.specs.Meaning.{Meaning}
 use Rattle.envelope.specs.Folds.{IsSameFold}
 use Rattle.regions.specs.declared.shapes.Layout.{Layout}
-use Rattle.regions.specs.LaidOut.{IsLaidOut}
 use Rattle.regions.specs.Sides.{back_of, is_section, side_of, sides_of}
 use Rattle.regionrun.specs.declared.one_strand.Strand.{Strand}
 use Rattle.regionrun.specs.Handed.{IsBlock, part}
+use Rattle.regionrun.specs.Lawful.{IsLawful}
 use Rattle.regionrun.specs.Right.{IsBare, IsRight}
 use Rattle.regionrun.specs.Stubs.{HasStub}
 use Rattle.schedule.specs.LayoutNets.{layout_net}
@@ -80,5 +80,5 @@ pub record AreAtTurn {S : Type 0} (strand_of entered_of : S → ℕ) (law : Mean
 
 -- what all turns of a run have in common
 pub record IsCourse (law : Meaning) (layout : Layout) (net : Net) : Type 0 where
-  pub laid_out : IsLaidOut layout law.mesh
+  pub lawful : IsLawful layout law.mesh
   pub planned : IsSameNet (layout_net layout law.mesh 1) net

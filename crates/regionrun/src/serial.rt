@@ -4,6 +4,7 @@ ghost use Rattle.case_model.specs.Meaning.{Meaning};
 ghost use Rattle.regionrun.specs.Engine.{AreAt, AreAtTurn, AreSameFolds, HaveBlocks, HaveRoom};
 ghost use Rattle.regionrun.specs.Engine.{IsCourse, handed_words};
 ghost use Rattle.regionrun.specs.Engine.{count_at, has_turn, none};
+ghost use Rattle.regionrun.specs.Handed.{part};
 ghost use Rattle.regionrun.specs.Right.{IsFed, IsRight, IsSameStrand, region_count};
 ghost use Rattle.regions.specs.LaidOut.{IsLaidOut};
 ghost use Rattle.regions.specs.Sides.{is_section_shape, sides_of};
@@ -14,7 +15,7 @@ use crate::frontiers::Frontier;
 use crate::one_strand::Strand;
 use crate::sizes::sizes;
 use case_model::{Law, List, Mesh};
-use regions::{Layout, Shape};
+use regions::{Layout, Shape, WIDEST_WINDOW};
 use schedule::Plan;
 use std::alloc::{AllocError, Global};
 
@@ -180,7 +181,17 @@ fn handed<'a, L: Law, G: Gate>(
         number side blocks.now }
 {
     let link = course.plan.link(number, side);
-    let width = 4 * course.layout.window as usize;
-    let from = width * link.back as usize;
-    &blocks[link.strand as usize].as_slice()[from..from + width]
+    let words = blocks[link.strand as usize].as_slice();
+    part_for(words, course.layout.window as usize, link.back as usize)
+}
+
+// The part of a strand's block that is for one of its sides.
+fn part_for(words: &[u64], window: usize, side: usize) -> &[u64]
+    requires window { window ≤ WIDEST_WINDOW }
+    requires inside { 4 * window * side + 4 * window ≤ length words.now }
+    ensures { result.now ≡ part (4 * window) side words.now }
+{
+    let width = 4 * window;
+    let from = width * side;
+    &words[from..from + width]
 }

@@ -4,7 +4,7 @@ use Rattle.regionrun.proofs.serial.feed.Given as goal
 
 abbrev pub invariant-loop-side : goal.invariant-loop-side
 invariant-loop-side g l = record {
-  right : IsRight (g.L.Law.meaning l.course.now.law.now) l.course.now.layout.now l.frontier;
+  right : IsRight (g.L.Law.meaning l.course.law.now) l.course.layout.now l.frontier;
   same : IsSameStrand l.fn.frontier l.frontier;
   computed : l.frontier.computed ≡ l.fn.frontier.computed;
   fed : (c : ℕ) → c < l.side → has_loaded l.frontier c ≡ true;
