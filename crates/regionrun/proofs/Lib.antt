@@ -6,10 +6,12 @@ mod Turning
 pub mod Begun
 pub mod Beside
 pub mod Gathered
+pub mod Merging
 pub mod Nodes
 pub mod Owning
 pub mod Reached
 pub mod Seams
+pub mod Spans
 pub mod Spanned
 pub mod Spots
 pub mod Starts

@@ -4,3 +4,5 @@ pub mod Lawful
 pub mod Owned
 pub mod Right
 pub mod Stubs
+pub mod Surveys
+pub mod Gathering
