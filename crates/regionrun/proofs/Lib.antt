@@ -3,14 +3,17 @@ mod Handing
 mod Keeping
 mod Parts
 mod Sizing
+mod Stepping
 mod Turning
 pub mod Begun
 pub mod Beside
 pub mod Gathered
+pub mod Merging
 pub mod Nodes
 pub mod Owning
 pub mod Reached
 pub mod Seams
+pub mod Spans
 pub mod Spanned
 pub mod Spots
 pub mod Starts

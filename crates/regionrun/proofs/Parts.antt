@@ -51,7 +51,7 @@ part-before width i c old run below inside =
     ∙ sym (part-low width i (take a old) (drop a old) h)
     ∙ ap (part width i) (take-append-drop a old)
 
-before-or-at : (i j : ℕ) → i < j + 1 → (i < j) ⊎ (i ≡ j)
+pub before-or-at : (i j : ℕ) → i < j + 1 → (i < j) ⊎ (i ≡ j)
 before-or-at i j h = grind arith
 
 -- the part for one side more is written

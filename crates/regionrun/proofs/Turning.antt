@@ -1,8 +1,9 @@
 -- Turns: what the strands have when one of them is to compute its next region.
 use Rattle.std.specs.Prelude.{◌≡◌, ℕ, zero, suc, ◌+◌, ◌*◌, ◌/◌, ◌%◌, ◌<◌, ◌≤◌, ◌==◌, Bool, true, false}
-use Rattle.std.specs.Prelude.{not, if◌then◌else◌, List, [], length, slice_index_or, Some, None, refl}
-use Rattle.std.proofs.Common.{sym, ◌∙◌, ap, subst, arith}
-use Rattle.std.proofs.lemmas.Bool.{eqb-true, eqb-false}
+use Rattle.std.specs.Prelude.{◌||◌, not, if◌then◌else◌, List, [], length, slice_index_or, Option, Some}
+use Rattle.std.specs.Prelude.{None, is_some, refl}
+use Rattle.std.proofs.Common.{sym, ◌∙◌, ap, subst, arith, inl, inr, eq-eqb}
+use Rattle.std.proofs.lemmas.Bool.{eqb-true, eqb-false, or_right}
 use Rattle.std.proofs.lemmas.List.{get_or_default}
 use Rattle.std.proofs.Math.Nat.{mul-le-mul_left}
 use Rattle.case_model.specs.declared.meshes.Mesh.{Mesh}
@@ -14,7 +15,8 @@ use Rattle.regionrun.specs.declared.frontiers.Frontier.{Frontier}
 use Rattle.regionrun.specs.Engine.{HaveBlocks, HaveRoom, IsCourse, count_at, handed_words, has_turn}
 use Rattle.regionrun.specs.Engine.{is_even}
 use Rattle.regionrun.specs.Handed.{IsBlock, IsBlockFor, part}
-use Rattle.regionrun.specs.Right.{IsRight, IsWanted}
+use Rattle.regionrun.specs.Right.{IsRight, IsSameStrand, IsWanted, has_loaded}
+use Rattle.regionrun.proofs.Parts.{before-or-at}
 use Rattle.schedule.specs.LayoutNets.{layout_net}
 use Rattle.schedule.specs.Nets.{IsSameNet, Net}
 
@@ -113,7 +115,7 @@ flipped : (b : Bool) → not b ≡ true → b ≡ false
 flipped true e = cc
 flipped false e = refl
 
-odd : (t : ℕ) → not (is_even t) ≡ true → t % 2 ≡ 1
+pub odd : (t : ℕ) → not (is_even t) ≡ true → t % 2 ≡ 1
 odd t e =
     let n : t % 2 ≡ 0 → ⊥ = eqb-false (t % 2) 0 (flipped (is_even t) e) in
     rest (t % 2) n (omega arith)
@@ -160,7 +162,7 @@ other-turn : (layout : Layout) (t x y : ℕ) → is_section layout y ≡ not (is
 other-turn layout t x y kinds has =
     turned (is_section layout x) (is_section layout y) (is_even t) kinds has
 
-other-count : (layout : Layout) (t n y : ℕ) → has_turn layout t y ≡ false
+pub other-count : (layout : Layout) (t n y : ℕ) → has_turn layout t y ≡ false
     → count_at layout t n y ≡ (t + 1) / 2
 unfolding count_at
 other-count layout t n y not_now = rw not_now refl
@@ -195,3 +197,71 @@ wanted law layout t c frontier blocks both right has computed most blocks_are si
       needed = need;
       handed = block.parts (back_of layout law.mesh x c) (both.index x c right.there side);
     }
+
+-- ---- feeding a strand
+
+some-of : (o : Option ℕ) → is_some o ≡ true → (b : ℕ) × (o ≡ Some b)
+some-of (Some b) e = (b, refl)
+some-of None e = cc
+
+-- the strand while it is fed, as it was at the start of its turn
+pub record IsFeeding (law : Meaning) (layout : Layout) (start now : Frontier) : Type 0 where
+  pub right : IsRight law layout now
+  pub same : IsSameStrand start now
+  pub computed : now.computed ≡ start.computed
+
+-- at the start of its turn, with the blocks that its neighbours handed on
+pub record IsToFeed (law : Meaning) (layout : Layout) (t : ℕ) (start : Frontier)
+    (blocks : List (List ℕ)) : Type 0 where
+  pub has : has_turn layout t start.number ≡ true
+  pub computed : start.computed ≡ t / 2
+  pub most : t < 2 * layout.windows + 1
+  pub blocks_are : HaveBlocks law layout (count_at layout t start.number) blocks
+  pub needs : is_some (needs_of (is_section layout start.number) start.computed) ≡ true
+
+pub feeding : (law : Meaning) (layout : Layout) (t c : ℕ) (start now : Frontier)
+    (blocks : List (List ℕ)) (words : List ℕ)
+    → AreMutual layout law.mesh → IsToFeed law layout t start blocks
+    → IsFeeding law layout start now → c < start.sides
+    → words ≡ handed_words layout law.mesh now.number c blocks
+    → IsWanted law layout now c words
+feeding law layout t c start now blocks words both to f side is =
+    let number : now.number ≡ start.number = f.same.number_is in
+    let sides : now.sides ≡ start.sides = f.same.sides_are in
+    let needs = some-of (needs_of (is_section layout start.number) start.computed) to.needs in
+    subst (IsWanted law layout now c) (sym is)
+    (wanted law layout t c now blocks both f.right
+    (subst (λ k. has_turn layout t k ≡ true) (sym number) to.has)
+    (f.computed ∙ to.computed) to.most
+    (subst (λ k. HaveBlocks law layout (count_at layout t k) blocks) (sym number) to.blocks_are)
+    (subst (λ k. c < k) f.right.sides_are (subst (λ k. c < k) (sym sides) side))
+    needs.0
+    (ap (λ k. needs_of (is_section layout k) now.computed) number
+    ∙ ap (needs_of (is_section layout start.number)) f.computed ∙ needs.1))
+
+-- one block more is loaded
+pub one-loaded : (old new : Frontier) (side : ℕ)
+    → ((c : ℕ) → c < old.sides → has_loaded new c ≡ (has_loaded old c || (c == side)))
+    → ((c : ℕ) → c < side → has_loaded old c ≡ true) → side < old.sides
+    → (c : ℕ) → c < side + 1 → has_loaded new c ≡ true
+one-loaded old new side loaded before there c below =
+    loaded c (omega arith) ∙ elim (before-or-at c side below) [
+      | inl l ↦ rw (before c l) refl
+      | inr e ↦ or_right (has_loaded old c) (c == side) (eq-eqb c side e)
+    ]
+
+-- a strand is the same as one that is the same as it
+pub same-on : (one two three : Frontier) → IsSameStrand one two → IsSameStrand two three
+    → IsSameStrand one three
+same-on one two three a b = record {
+  number_is = b.number_is ∙ a.number_is;
+  window_is = b.window_is ∙ a.window_is;
+  windows_are = b.windows_are ∙ a.windows_are;
+  sides_are = b.sides_are ∙ a.sides_are;
+  fold_is = record {
+    spans_are = b.fold_is.spans_are ∙ a.fold_is.spans_are;
+    probes_are = b.fold_is.probes_are ∙ a.fold_is.probes_are;
+    steps_are = b.fold_is.steps_are ∙ a.fold_is.steps_are;
+    every_is = b.fold_is.every_is ∙ a.fold_is.every_is;
+  };
+}

@@ -10,7 +10,7 @@ use Rattle.regions.specs.Cuts.{IsLimited}
 use Rattle.regions.specs.LaidOut.{IsLaidOut}
 use Rattle.regions.specs.Needs.{AreEnough}
 use Rattle.regions.specs.Regions.{IsPartition, IsWhole}
-use Rattle.regions.specs.Sides.{IsWired, AreMutual}
+use Rattle.regions.specs.Sides.{IsWired, AreMutual, AreOrdered}
 use Rattle.regions.specs.Touching.{AreTouching}
 
 -- numbers and places of the mesh tell one another
@@ -27,6 +27,7 @@ pub record IsLawful (layout : Layout) (mesh : Mesh) : Type 0 where
   pub numbered : IsNumbered mesh
   pub limited : IsLimited mesh
   pub wired : IsWired mesh
+  pub rising : AreOrdered mesh
   pub told : AreTold mesh
   pub whole : IsWhole layout
   pub partition : IsPartition layout mesh

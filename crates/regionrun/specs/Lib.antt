@@ -5,3 +5,5 @@ pub mod Lawful
 pub mod Owned
 pub mod Right
 pub mod Stubs
+pub mod Surveys
+pub mod Gathering

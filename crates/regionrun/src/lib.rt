@@ -5,13 +5,18 @@
 mod bodies;
 mod frontiers;
 mod gates;
+mod gathering;
 mod lawful;
 mod one_strand;
 mod ranges;
 mod serial;
 mod sizes;
+mod strand_folds;
+mod surveys;
 
 pub use gates::{EntryStub, Gate, OpenGate, OpenStub};
+pub use gathering::gather;
 pub use lawful::layouts_are_lawful;
 pub use one_strand::Strand;
 pub use serial::run_serial;
+pub use surveys::Survey;

@@ -16,7 +16,7 @@ use Rattle.regions.specs.Layouts.{layout_of}
 use Rattle.regions.specs.Needs.{AreEnough}
 use Rattle.regions.specs.Regions.{IsPartition, IsWhole}
 use Rattle.regions.specs.declared.shapes.Shape.TheVariants.{OfSection}
-use Rattle.regions.specs.Sides.{shape_at, IsWired, AreMutual}
+use Rattle.regions.specs.Sides.{shape_at, IsWired, AreMutual, AreOrdered}
 use Rattle.regions.specs.Touching.{AreTouching}
 use Rattle.regions.proofs.Joining.{HasNodes, all-mutual, section-nodes}
 use Rattle.regions.proofs.Needing.{enough}
@@ -26,7 +26,7 @@ use Rattle.regions.proofs.Strands.{IsOver, layout-over, layout-windows}
 use Rattle.regions.proofs.Touching.{all-touching}
 use Rattle.regions.proofs.Whole.{whole}
 use Rattle.regions.proofs.Windowed.{window-is, window-some}
-use Rattle.regions.proofs.Wiring.{wired}
+use Rattle.regions.proofs.Wiring.{ordered, wired}
 
 -- ---- of the mesh
 
@@ -52,6 +52,9 @@ limited_for case mesh a =
 
 pub wired_for : (case : Case) (mesh : Mesh) → IsAccepted case mesh → IsWired mesh
 wired_for case mesh a = subst IsWired (sym a.divided) (wired case)
+
+pub ordered_for : (case : Case) (mesh : Mesh) → IsAccepted case mesh → AreOrdered mesh
+ordered_for case mesh a = subst AreOrdered (sym a.divided) (ordered case)
 
 pub limited : (mesh : Mesh) → IsAcceptedMesh mesh → IsLimited mesh
 limited mesh a = limited_for a.case mesh a.accepted

@@ -1,8 +1,8 @@
 -- In the mesh of a case each end in a node's list is found there again.
-use Rattle.std.proofs.Common.{◌≡◌, ℕ, zero, suc, ◌+◌, ◌*◌, ◌<◌, ◌≤◌, ◌==◌, ◌&&◌, not, Bool, true, false, List, [], ◌∷◌, length, get_or, refl, ap, subst, sym, ◌∙◌, arith, eq-eqb}
+use Rattle.std.proofs.Common.{◌≡◌, ℕ, zero, suc, ◌+◌, ◌*◌, ◌<◌, ◌≤◌, inl, inr, ◌==◌, ◌&&◌, not, Bool, true, false, List, [], ◌∷◌, length, get_or, refl, ap, subst, sym, ◌∙◌, arith, eq-eqb}
 use Rattle.std.specs.Prelude.{if◌then◌else◌}
 use Rattle.std.specs.List.{AllByRecursion, cons_option, list_any, position_or_len}
-use Rattle.std.proofs.lemmas.Bool.{eqb-true, false_from_ne_true}
+use Rattle.std.proofs.lemmas.Bool.{cases_lt, eqb-true, false_from_ne_true}
 use Rattle.std.proofs.lemmas.List.Elements.{All-from_recursion}
 use Rattle.std.proofs.lemmas.List.Folds.{list_any_at}
 use Rattle.std.proofs.lemmas.List.Sums.{position_or_len_is}
@@ -15,7 +15,7 @@ use Rattle.case_model.specs.Mesh.{is_end, ends_of, end_node, end_index}
 use Rattle.case_model.specs.Parts.{no_pipe}
 use Rattle.case_model.proofs.Keeping.{parts}
 use Rattle.case_model.specs.Joints.{no_end}
-use Rattle.regions.specs.Sides.{end_at, IsWired}
+use Rattle.regions.specs.Sides.{end_at, AreOrdered, IsBefore, IsWired}
 use Rattle.regions.proofs.Joining.{end-is}
 use Rattle.case_model.proofs.ListFacts.{any-index}
 
@@ -136,3 +136,28 @@ wired_index case k j h l =
 
 pub wired : (case : Case) → IsWired (mesh_of case)
 wired case = record { node = wired_node case; index = wired_index case }
+
+-- ---- and they stand in order
+
+before_by : (p q : ℕ) (l m : Bool) → rank p l < rank q m
+    → IsBefore (record { pipe = p; at_last = l }) (record { pipe = q; at_last = m })
+before_by p q false false h = inl (omega arith)
+before_by p q true true h = inl (omega arith)
+before_by p q true false h = inl (omega arith)
+before_by p q false true h = elim (cases_lt p q) [
+  | inl l ↦ inl l
+  | inr l ↦ inr (omega arith, refl, refl)
+]
+
+ordered_at : (case : Case) (k i j : ℕ) → k < length (mesh_of case).ends → i < j
+    → j < length (ends_of (mesh_of case) k)
+    → IsBefore (end_at (mesh_of case) k i) (end_at (mesh_of case) k j)
+ordered_at case k i j h l m =
+    let b : k < length case.nodes = omega (arith, (parts case).nodes) in
+    let s = (parts case).ends k b in
+    subst (λ (xs : List End). IsBefore (get_or xs i no_end) (get_or xs j no_end)) (sym s)
+    (before_by _ _ _ _ (rank-less 0 (node_ends case k) i j no_end (ends-rising k 0 case.pipes) l
+    (subst (λ (xs : List End). j < length xs) s m)))
+
+pub ordered : (case : Case) → AreOrdered (mesh_of case)
+ordered case = record { each = ordered_at case }

@@ -1,5 +1,5 @@
 -- The neighbours of strands.
-use Rattle.std.specs.Prelude.{◌≡◌, ℕ, ◌-◌, ◌<◌, ◌==◌, not, Bool, true, false, if◌then◌else◌, length}
+use Rattle.std.specs.Prelude.{◌≡◌, ℕ, ◌-◌, ◌<◌, ◌⊎◌, ◌==◌, not, Bool, true, false, if◌then◌else◌, length}
 use Rattle.std.specs.Prelude.{slice_index_or}
 use Rattle.case_model.specs.declared.meshes.End.{End}
 use Rattle.case_model.specs.declared.meshes.Mesh.{Mesh}
@@ -92,3 +92,12 @@ pub record IsWired (mesh : Mesh) : Type 0 where
       → end_node mesh (end_at mesh k j).pipe (end_at mesh k j).at_last ≡ k
   pub index : (k j : ℕ) → k < length mesh.ends → j < length (ends_of mesh k)
       → end_index mesh (end_at mesh k j).pipe (end_at mesh k j).at_last ≡ j
+
+-- in order of pipes, and of one pipe the end at place 0 before that at its last place
+abbrev pub IsBefore : End → End → Type 0
+IsBefore a b = (a.pipe < b.pipe) ⊎ ((a.pipe ≡ b.pipe) × (a.at_last ≡ false) × (b.at_last ≡ true))
+
+-- the ends of each node stand in that order
+pub record AreOrdered (mesh : Mesh) : Type 0 where
+  pub each : (k i j : ℕ) → k < length mesh.ends → i < j → j < length (ends_of mesh k)
+      → IsBefore (end_at mesh k i) (end_at mesh k j)

@@ -18,17 +18,18 @@ ghost use Rattle.regions.specs.Cuts.{section_reaches, cut};
 ghost use Rattle.regions.specs.LaidOut.{IsCutFor, IsLaidOut};
 ghost use Rattle.regions.specs.Needs.{AreEnough, AgreeOnReads, AgreeAfter};
 ghost use Rattle.regions.specs.Regions.{HasSpot, IsPartition, IsWhole};
-ghost use Rattle.regions.specs.Sides.{IsWired, AreMutual};
+ghost use Rattle.regions.specs.Sides.{IsWired, AreMutual, AreOrdered};
 ghost use Rattle.regions.specs.Touching.{AreTouching};
 
 /// The law of accepted meshes: rows can be computed in the mesh of a case that division accepts,
-/// its places are numbered, all its counts are within their limits, and each end of a pipe is found
-/// at its node.
+/// its places are numbered, all its counts are within their limits, each end of a pipe is found at
+/// its node, and the ends of a node stand in order of pipes.
 pub fn accepted_meshes_are_sound()
     ensures mesh { (mesh : MeshSeen) → IsAcceptedMesh mesh → IsMesh mesh }
     ensures numbered { (mesh : MeshSeen) → IsAcceptedMesh mesh → IsNumbered mesh }
     ensures limited { (mesh : MeshSeen) → IsAcceptedMesh mesh → IsLimited mesh }
     ensures wired { (mesh : MeshSeen) → IsAcceptedMesh mesh → IsWired mesh }
+    ensures rising { (mesh : MeshSeen) → IsAcceptedMesh mesh → AreOrdered mesh }
 {}
 
 /// The law of layouts: a layout is a cut of the mesh of an accepted case, its window is the least

@@ -13,6 +13,7 @@ returns c = λ layout mesh l.
       numbered = numbered;
       limited = c.accepted_meshes_are_sound.ensures.limited mesh a;
       wired = c.accepted_meshes_are_sound.ensures.wired mesh a;
+      rising = c.accepted_meshes_are_sound.ensures.rising mesh a;
       told = record {
         place = λ at h. c.numbers_tell_places.ensures.place mesh at numbered h;
         below = λ at h. c.numbers_tell_places.ensures.below mesh at numbered h;

@@ -1,0 +1,251 @@
+-- The folds of strands that are done, gathered one after another.
+use Rattle.std.proofs.Common.{◌≡◌, ℕ, suc, ◌+◌, ◌-◌, ◌*◌, ◌/◌, ◌<◌, ◌≤◌, inl, inr}
+use Rattle.std.proofs.Common.{Bool, true, false, List, [], ◌∷◌, length, map, get_or, ap, sym}
+use Rattle.std.proofs.Common.{Some, None, cond, subst, refl, ◌∙◌, arith}
+use Rattle.std.specs.Prelude.{◌&&◌, ◌||◌}
+use Rattle.std.specs.List.{filter}
+use Rattle.std.proofs.lemmas.Bool.{lt-ltb}
+use Rattle.std.proofs.lemmas.List.{get_or-map, length-map}
+use Rattle.case_model.specs.declared.meshes.Mesh.{Mesh}
+use Rattle.case_model.specs.Joints.{no_end}
+use Rattle.case_model.specs.Meaning.{Meaning}
+use Rattle.case_model.specs.Mesh.{ends_of}
+use Rattle.envelope.specs.Cells.{is_within, no_span}
+use Rattle.case_model.specs.PlaceNumbers.{place_at}
+use Rattle.case_model.specs.Rows.{row}
+use Rattle.envelope.specs.Extremes.{first_of}
+use Rattle.envelope.specs.Folds.{IsSameFold, Stands, spans_of, steps_of}
+use Rattle.envelope.specs.Notings.{Agree, IsInside, Noted, Noting, nothing, union}
+use Rattle.envelope.specs.Rows.{noting_at, rows_noted}
+use Rattle.envelope.specs.declared.folds.Fold.{Fold}
+use Rattle.envelope.proofs.CellLaws.{below-first, within-span}
+use Rattle.regions.specs.declared.shapes.Layout.{Layout}
+use Rattle.regions.specs.declared.shapes.Shape.{Shape}
+use Rattle.regions.specs.declared.shapes.Shape.TheVariants.{OfNode, OfSeam, OfSection}
+use Rattle.regions.specs.Sides.{end_at, shape_at}
+use Rattle.strands.specs.Marks.{Marks, marked, or_marked}
+use Rattle.regionrun.specs.declared.frontiers.Frontier.{Frontier}
+use Rattle.regionrun.specs.declared.one_strand.Strand.{Strand}
+use Rattle.regionrun.specs.Gathering.{IsDone, IsPart}
+use Rattle.regionrun.specs.Lawful.{IsLawful}
+use Rattle.regionrun.specs.Owned.{IsNear, IsReached, end_place, owned, owned_below}
+use Rattle.regionrun.specs.Right.{IsRight, IsRightAt, end_span, region_count, strand_spans}
+use Rattle.regionrun.proofs.Gathered.{owned_below-all, owned_below-more, owned_below-none}
+use Rattle.regionrun.proofs.Reached.{owned-reached}
+
+-- ---- where a strand's places lie, its fold has spans
+
+near-end : (mesh : Mesh) (w p : ℕ) (last : Bool) (k : ℕ)
+    → IsNear mesh p (end_place mesh (record { pipe = p; at_last = last })) ((w - 1) / 2) k
+    → ((end_span mesh w (record { pipe = p; at_last = last })).0 ≤ k)
+    × (k < (end_span mesh w (record { pipe = p; at_last = last })).0
+    + (end_span mesh w (record { pipe = p; at_last = last })).1)
+near-end mesh w p true k n =
+    let a = n.low in let b = n.high in let c = n.near in (omega arith, omega arith)
+near-end mesh w p false k n =
+    let a = n.low in let b = n.high in let c = n.near in (omega arith, omega arith)
+
+one-within : (first count k : ℕ) → first ≤ k → k < first + count
+    → is_within ((first, count) ∷ []) k ≡ true
+one-within first count k low high =
+    within-span ((first, count) ∷ []) 0 k (omega arith) low high
+
+abbrev HasIt : ℕ → ℕ × ℕ → Type 0
+HasIt k span = (span.0 ≤ k) × (k < span.0 + span.1)
+
+end-within : (mesh : Mesh) (w node j k : ℕ) → j < length (ends_of mesh node)
+    → HasIt k (end_span mesh w (end_at mesh node j))
+    → is_within ((node, 1) ∷ map (end_span mesh w) (ends_of mesh node)) k ≡ true
+end-within mesh w node j k h has =
+    let spans = (node, 1) ∷ map (end_span mesh w) (ends_of mesh node) in
+    let e : get_or (map (end_span mesh w) (ends_of mesh node)) j no_span
+    ≡ end_span mesh w (end_at mesh node j) =
+    get_or-map (end_span mesh w) (ends_of mesh node) j no_end no_span h in
+    let at = subst (HasIt k) (sym e) has in
+    within-span spans (suc j) k (omega (arith, length-map (ends_of mesh node) (end_span mesh w)))
+    at.0 at.1
+
+reached-within : (mesh : Mesh) (w : ℕ) (shape : Shape) (k : ℕ) → IsReached mesh w shape k
+    → is_within (strand_spans mesh w shape) k ≡ true
+unfolding strand_spans
+reached-within mesh w (OfNode node) k (inl e) =
+    within-span ((node, 1) ∷ map (end_span mesh w) (ends_of mesh node)) 0 k (omega arith)
+    (omega arith) (omega arith)
+reached-within mesh w (OfNode node) k (inr r) =
+    let e = end_at mesh node r.0 in
+    end-within mesh w node r.0 k r.1 (near-end mesh w e.pipe e.at_last k r.2)
+reached-within mesh w (OfSeam pipe place left right) k n =
+    let a = n.low in
+    let b = n.near in
+    one-within _ _ k (omega arith) (omega arith)
+reached-within mesh w (OfSection pipe place count left right) k n =
+    let a = n.0 in
+    let b = n.1 in
+    one-within _ _ k (omega arith) (omega arith)
+
+-- ---- marks within spans
+
+abbrev pub within_marks : List (ℕ × ℕ) → Marks → Marks
+within_marks spans marks s k = is_within spans k && marks s k
+
+either-has : (a b : Bool) (z : Noting) → first_of (cond a (Some z) None) (cond b (Some z) None)
+    ≡ cond (a || b) (Some z) None
+either-has true b z = refl
+either-has false true z = refl
+either-has false false z = refl
+
+union-marked : (law : Meaning) (one other : Marks) (s k : ℕ)
+    → union (marked law one) (marked law other) s k ≡ marked law (or_marked one other) s k
+unfolding marked
+union-marked law one other s k =
+    either-has (one s k) (other s k) (noting_at (row law s) (place_at law.mesh k))
+
+value-of : (a : Bool) (z x : Noting) → cond a (Some z) None ≡ Some x → x ≡ z
+value-of true z x e = cc
+value-of false z x e = cc
+
+agree-marked : (law : Meaning) (one other : Marks) → Agree (marked law one) (marked law other)
+unfolding marked
+agree-marked law one other s k x y a b =
+    let z = noting_at (row law s) (place_at law.mesh k) in
+    value-of (one s k) z x a ∙ sym (value-of (other s k) z y b)
+
+same-marked : (law : Meaning) (one other : Marks) (s k : ℕ) → one s k ≡ other s k
+    → marked law one s k ≡ marked law other s k
+unfolding marked
+same-marked law one other s k e = rw e refl
+
+inside-within : (law : Meaning) (spans : List (ℕ × ℕ)) (marks : Marks)
+    → IsInside spans (marked law (within_marks spans marks))
+unfolding marked
+inside-within law spans marks s k e = rw e refl
+
+-- what is marked lies within the spans
+within-all : (spans : List (ℕ × ℕ)) (marks : Marks) (s k : ℕ)
+    → (marks s k ≡ true → is_within spans k ≡ true) → within_marks spans marks s k ≡ marks s k
+within-all spans marks s k h = by (is_within spans k) (marks s k) h
+  where
+    by : (a b : Bool) → (b ≡ true → a ≡ true) → (a && b) ≡ b
+    by true b f = refl
+    by false true f = f refl
+    by false false f = refl
+
+-- ---- one more strand
+
+-- the laws of maps and of layouts
+abbrev pub MapsLaw : Type 0
+MapsLaw = (fold : Fold) (map more : Noted)
+    → ((s k : ℕ) → s ≤ steps_of fold → is_within (spans_of fold) k ≡ true → map s k ≡ more s k)
+    → Stands fold map → Stands fold more
+
+-- what merging says of two maps
+abbrev pub MergeLaw : Fold → Fold → Fold → Type 0
+MergeLaw old other new = (map more : Noted) → Stands old map → Stands other more → Agree map more
+    → IsInside (spans_of other) more → Stands new (union map more)
+
+owned-within : (law : Meaning) (layout : Layout) (c : ℕ) (frontier : Frontier) (s k : ℕ)
+    → IsLawful layout law.mesh → IsRightAt law layout c frontier
+    → s ≤ layout.windows * layout.window
+    → owned law.mesh layout.window frontier.number c s k ≡ true
+    → is_within (spans_of frontier.fold) k ≡ true
+owned-within law layout c frontier s k lawful right end o =
+    subst (λ (spans : List (ℕ × ℕ)). is_within spans k ≡ true) (sym right.spans)
+    (reached-within law.mesh layout.window (shape_at layout frontier.number) k
+    (owned-reached layout law.mesh frontier.number c s k lawful right.there end o))
+
+more-marks : (law : Meaning) (layout : Layout) (c : ℕ) (frontier : Frontier) (s k : ℕ)
+    → IsLawful layout law.mesh → IsRightAt law layout c frontier
+    → region_count layout frontier.number ≤ c → s ≤ layout.windows * layout.window
+    → or_marked (owned_below law.mesh layout.window frontier.number)
+    (within_marks (spans_of frontier.fold) (owned law.mesh layout.window frontier.number c)) s k
+    ≡ owned_below law.mesh layout.window (frontier.number + 1) s k
+more-marks law layout c frontier s k lawful right most end =
+    let x : ℕ = frontier.number in
+    let same = within-all (spans_of frontier.fold) (owned law.mesh layout.window x c) s k
+    (owned-within law layout c frontier s k lawful right end) in
+    let more = owned_below-more layout law.mesh x c lawful most s k end in
+    rw same (sym more)
+
+pub one-gathered : (law : Meaning) (layout : Layout) (frontier : Frontier) (old new : Fold)
+    → MapsLaw → IsLawful layout law.mesh → MergeLaw old frontier.fold new
+    → IsPart old frontier.fold → IsSameFold old new → IsRight law layout frontier
+    → frontier.computed ≡ region_count layout frontier.number
+    → steps_of old ≤ layout.windows * layout.window
+    → Stands old (marked law (owned_below law.mesh layout.window frontier.number))
+    → Stands new (marked law (owned_below law.mesh layout.window (frontier.number + 1)))
+one-gathered law layout frontier old new maps lawful merge part same right all few stands =
+    let x : ℕ = frontier.number in
+    let below = owned_below law.mesh layout.window x in
+    let own = owned law.mesh layout.window x frontier.computed in
+    let spans = spans_of frontier.fold in
+    let more : Marks = within_marks spans own in
+    let steps = same.steps_are in
+    maps new (union (marked law below) (marked law more))
+    (marked law (owned_below law.mesh layout.window (x + 1)))
+    (λ s k l w. union-marked law below more s k
+    ∙ same-marked law (or_marked below more) (owned_below law.mesh layout.window (x + 1)) s k
+    (more-marks law layout frontier.computed frontier s k lawful right (omega arith) (omega arith)))
+    (merge (marked law below) (marked law more) stands
+    (maps frontier.fold (marked law own) (marked law more)
+    (λ s k l w. same-marked law own more s k (rw w refl)) right.stands)
+    (agree-marked law below more)
+    (inside-within law spans own))
+
+-- ---- none, and all
+
+pub none-gathered : (law : Meaning) (layout : Layout) (fold : Fold) → MapsLaw → Stands fold nothing
+    → Stands fold (marked law (owned_below law.mesh layout.window 0))
+unfolding marked
+none-gathered law layout fold maps stands =
+    maps fold nothing (marked law (owned_below law.mesh layout.window 0))
+    (λ s k l w. rw (owned_below-none law.mesh layout.window s k) refl) stands
+
+pub all-gathered : (law : Meaning) (layout : Layout) (fold : Fold) → MapsLaw
+    → IsLawful layout law.mesh → steps_of fold ≤ layout.windows * layout.window
+    → spans_of fold ≡ (0, law.mesh.places) ∷ []
+    → Stands fold (marked law (owned_below law.mesh layout.window (length layout.shapes)))
+    → Stands fold (rows_noted law)
+unfolding marked
+all-gathered law layout fold maps lawful few spans stands =
+    maps fold (marked law (owned_below law.mesh layout.window (length layout.shapes)))
+    (rows_noted law)
+    (λ s k l w. rw (
+      owned_below-all layout law.mesh lawful s k (omega arith),
+      lt-ltb k law.mesh.places (below-first (spans_of fold) law.mesh.places k spans w),
+    ) refl) stands
+
+-- ---- by strands
+
+pub one-done : {S : Type 0} (law : Meaning) (layout : Layout) (x : ℕ) (strand : Strand S)
+    (old new : Fold) → MapsLaw → IsLawful layout law.mesh
+    → MergeLaw old strand.frontier.fold new → IsPart old strand.frontier.fold → IsSameFold old new
+    → IsDone law layout x strand → steps_of old ≤ layout.windows * layout.window
+    → Stands old (marked law (owned_below law.mesh layout.window x))
+    → Stands new (marked law (owned_below law.mesh layout.window (x + 1)))
+one-done law layout x strand old new maps lawful merge part same done few stands =
+    let e = done.number_is in
+    let all : strand.frontier.computed ≡ region_count layout strand.frontier.number =
+    done.computed_is ∙ ap (region_count layout) (sym e) in
+    subst (λ (n : ℕ). Stands new (marked law (owned_below law.mesh layout.window (n + 1)))) e
+    (one-gathered law layout strand.frontier old new maps lawful merge part same done.right all few
+    (subst (λ (n : ℕ). Stands old (marked law (owned_below law.mesh layout.window n))) (sym e)
+    stands))
+
+-- ---- folds of the same spans, probes and steps
+
+pub same-then : (a b c : Fold) → IsSameFold a b → IsSameFold b c → IsSameFold a c
+same-then a b c one more = record {
+  spans_are = more.spans_are ∙ one.spans_are;
+  probes_are = more.probes_are ∙ one.probes_are;
+  steps_are = more.steps_are ∙ one.steps_are;
+  every_is = more.every_is ∙ one.every_is;
+}
+
+pub same-part : (a b part : Fold) → IsSameFold a b → IsPart a part → IsPart b part
+same-part a b part same p = record {
+  inside = λ k h. subst (λ (spans : List (ℕ × ℕ)). is_within spans k ≡ true)
+      (sym same.spans_are) (p.inside k h);
+  probes_are = p.probes_are ∙ ap (filter (is_within (spans_of part))) (sym same.probes_are);
+  steps_are = p.steps_are ∙ sym same.steps_are;
+  every_is = p.every_is ∙ sym same.every_is;
+}

@@ -1,0 +1,56 @@
+use Rattle.std.proofs.Common.{◌<◌, ◌∙◌, sym, subst}
+use Rattle.regionrun.proofs.Turning.{feeding, one-loaded, same-on}
+use Rattle.regionrun.proofs.serial.feed.Goals as goal
+
+pub load-requires-clause-wanted : goal.load-requires-clause-wanted
+load-requires-clause-wanted g c κs within =
+    let law = g.L.Law.meaning c.args.course.now.law.now in
+    let layout = c.args.course.now.layout.now in
+    record {
+      layout = layout;
+      wanted = feeding law layout c.args.turn c.loop-side.side c.args.frontier.now c.loop-side.frontier
+      c.args.blocks.now c.handed-words.result.now c.requires.course.lawful.sides
+      record {
+        has = c.requires.has;
+        computed = c.requires.computed;
+        most = c.requires.turn;
+        blocks_are = c.requires.blocks;
+        needs = sym (c.if-not-needs.ensures law layout c.requires.right);
+      }
+      record {
+        right = c.loop-side.invariant.right;
+        same = c.loop-side.invariant.same;
+        computed = c.loop-side.invariant.computed;
+      }
+      c.loop-side-test.true c.handed-words.ensures;
+    }
+
+pub loop-side-preserved : goal.loop-side-preserved
+loop-side-preserved g c =
+    let law = g.L.Law.meaning c.args.course.now.law.now in
+    let layout = c.args.course.now.layout.now in
+    record {
+      right = c.load.ensures.right layout
+          (feeding law layout c.args.turn c.loop-side.side c.args.frontier.now c.loop-side.frontier
+      c.args.blocks.now c.handed-words.result.now c.requires.course.lawful.sides
+      record {
+        has = c.requires.has;
+        computed = c.requires.computed;
+        most = c.requires.turn;
+        blocks_are = c.requires.blocks;
+        needs = sym (c.if-not-needs.ensures law layout c.requires.right);
+      }
+      record {
+        right = c.loop-side.invariant.right;
+        same = c.loop-side.invariant.same;
+        computed = c.loop-side.invariant.computed;
+      }
+      c.loop-side-test.true c.handed-words.ensures);
+      same = same-on c.args.frontier.now c.loop-side.frontier c.load.new.self
+          c.loop-side.invariant.same c.load.ensures.same.0;
+      computed = c.load.ensures.same.1 ∙ c.loop-side.invariant.computed;
+      fed = one-loaded c.loop-side.frontier c.load.new.self c.loop-side.side c.load.ensures.loaded
+          c.loop-side.invariant.fed
+          (subst (λ k. c.loop-side.side < k) (sym c.loop-side.invariant.same.sides_are)
+          c.loop-side-test.true);
+    }
