@@ -3,5 +3,6 @@ mod Fans
 mod Handing
 mod Loading
 mod Marking
+mod Spoking
 mod Starting
 mod Taking

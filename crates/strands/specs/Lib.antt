@@ -2,5 +2,6 @@ pub mod Beside
 pub mod Marks
 pub mod Seams
 pub mod Sections
+pub mod Spokes
 pub mod Stations
 pub mod Words

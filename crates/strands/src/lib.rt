@@ -6,10 +6,12 @@ mod besides;
 mod blocks;
 mod seams;
 mod sections;
+mod spokes;
 mod stations;
 
 pub use besides::{load_beside, write_beside};
 pub use blocks::{load_side, write_side};
 pub use seams::Seam;
 pub use sections::{advance, advance_region, advance_start};
+pub use spokes::Spoke;
 pub use stations::{advance_run, advance_seam};
