@@ -3,6 +3,7 @@ mod Fans
 mod Handing
 mod Loading
 mod Marking
+mod Nodes
 mod Spoking
 mod Starting
 mod Taking

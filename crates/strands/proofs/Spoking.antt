@@ -1,5 +1,5 @@
 -- The spokes of a node: the fronts around its end, and the steps of its triangle.
-use Rattle.std.proofs.Common.{◌≡◌, ℕ, ◌+◌, ◌-◌, ◌/◌, ◌<◌, ◌≤◌, ◌⊎◌, inl, inr, ◌∙◌, ap, sym, subst, refl, arith, Bool, true, false, min}
+use Rattle.std.proofs.Common.{◌≡◌, ℕ, ◌+◌, ◌-◌, ◌/◌, ◌<◌, ◌≤◌, ◌⊎◌, inl, inr, ◌∙◌, ap, sym, subst, refl, arith, Bool, true, false, List, min}
 use Rattle.std.specs.Prelude.{◌≢◌, not}
 use Rattle.std.specs.Prelude.{Some}
 use Rattle.std.proofs.Math.Bool.{and-false}
@@ -12,6 +12,7 @@ use Rattle.case_model.specs.declared.meshes.End.{End}
 use Rattle.case_model.proofs.RowLaws.{row-start}
 use Rattle.envelope.specs.Notings.Noting.{OfPoint}
 use Rattle.envelope.specs.Rows.{rows_noted}
+use Rattle.envelope.specs.Cells.{AreInOneSpan}
 use Rattle.fronts.specs.Bands.{from_place}
 use Rattle.fronts.specs.Fronts.{Holds, Puts, Raises, spot}
 use Rattle.fronts.specs.Stretches.{AreSamePlaces, count_of, kept}
@@ -23,7 +24,7 @@ use Rattle.strands.proofs.Loading.{with, with-here, with-there}
 use Rattle.strands.proofs.Marking.{ArePlaces, IsSplit, rows-at, same-numbered}
 use Rattle.strands.specs.Sections.{IsNumberedLine}
 use Rattle.strands.specs.Beside.{HasBeside, IsTriangle, taken_front, taken_since}
-use Rattle.strands.specs.Spokes.{IsNewSpoke, IsSameSpoke, IsSpoke, IsSpokeAt, end_place, inner_low, is_only, open_front, open_since, run_low, spoke_front, spoke_since}
+use Rattle.strands.specs.Spokes.{IsNewSpoke, IsSameSpoke, IsSpoke, IsSpokeAfter, IsSpokeAt, end_place, inner_low, is_only, nearer_low, open_front, open_since, run_low, spoke_front, spoke_since}
 use Rattle.strands.specs.declared.spokes.Spoke.{Spoke}
 use Rattle.strands.specs.Stations.{half}
 
@@ -313,3 +314,43 @@ new-spoke law w at place end blank stretch point pipe last bare is same e f p pu
       last_is = last;
       bare = bare;
     }
+
+-- ---- what the fold has
+
+pub within-spoke : (last : Bool) (n most low number other count : ℕ) (spans : List (ℕ × ℕ)) → count ≡ n + 1 → most < n
+    → low ≡ run_low last n most → other ≡ number → AreInOneSpan spans (number + nearer_low last) (count - 1)
+    → AreInOneSpan spans (other + low) (low + most + 1 - low)
+within-spoke true n most low number other count spans size a e f (i, h) =
+    let lo : _ = h.low in
+    let hi : _ = h.high in
+    (i, record { there = h.there; low = omega arith; high = omega arith })
+within-spoke false n most low number other count spans size a e f (i, h) =
+    let lo : _ = h.low in
+    let hi : _ = h.high in
+    (i, record { there = h.there; low = omega arith; high = omega arith })
+
+-- ---- from one window to the next
+
+pub spoke-begins : (law : Meaning) (w s : ℕ) (spoke : Spoke) → spoke.loaded ≡ true → IsSpokeAt law w s spoke → IsSpokeAfter law w s 0 spoke
+spoke-begins law w s spoke e h = record {
+  on_pipe = h.on_pipe;
+  holds = subst (λ b. Holds law (open_since b spoke.last w s) (open_front b spoke.last w s) spoke.stretch) e h.holds;
+}
+
+-- the end alone is held of the window's last step
+next-held : (last : Bool) (w s t x : ℕ) → x < half w + 1 → 1 ≤ w → open_since false last w (s + w) x ≤ t → t ≤ s + w
+    → (spoke_since last w s x ≤ t) × ((t ≤ spoke_front last w s w x) × (spoke_front last w s w x ≤ t + 1))
+next-held true w s t x b a c d = (omega arith, (omega arith, omega arith))
+next-held false w s t x b a c d = (omega arith, (omega arith, omega arith))
+
+pub spoke-next : (law : Meaning) (w s : ℕ) (spoke : Spoke) → spoke.loaded ≡ false → IsSpokeAfter law w s w spoke → IsSpokeAt law w (s + w) spoke
+spoke-next law w s spoke e h = record {
+  on_pipe = h.on_pipe;
+  holds = subst (λ b. Holds law (open_since b spoke.last w (s + w)) (open_front b spoke.last w (s + w)) spoke.stretch) (sym e)
+      (record {
+        cell = λ t x b f g i.
+            let size : count_of spoke.stretch ≡ half w + 1 = h.on_pipe.size in
+            let k = next-held spoke.last w s t x (omega arith) h.on_pipe.some f g in
+            h.holds.cell t x b k.0 k.1.0 k.1.1;
+      });
+}

@@ -14,7 +14,7 @@ use Rattle.fronts.specs.Noted.{run_noted}
 use Rattle.fronts.specs.Stretches.{IsStretchOf, count_of}
 use Rattle.fronts.specs.declared.stretches.Stretch.{Stretch}
 use Rattle.fronts.proofs.Lining.{is-now, run-before, run-in}
-use Rattle.strands.proofs.Marking.{ArePlaces, IsSplit, rows-at}
+use Rattle.strands.proofs.Marking.{ArePlaces, IsSplit, numbered-line, rows-at}
 use Rattle.strands.specs.Seams.{is_loaded, open_front, open_since, starts}
 use Rattle.strands.specs.Sections.{IsLine}
 use Rattle.strands.specs.Stations.{half, seam_front, seam_since}
@@ -106,7 +106,7 @@ split-start law w stretch left right at s k places line size e h = elim (is-now 
             rw (eq-eqb s 0 a, eq-eqb k (stretch.number + at) b) refl,
             run-in stretch 0 at (at + 1) s k a (omega arith) (omega arith)
                 ∙ ap (λ y. Some (OfPoint y)) (h.cell 0 x (omega arith) (omega arith) (omega arith) (omega arith))
-                ∙ sym (rows-at law stretch 0 k places line (omega arith) (omega arith))
+                ∙ sym (rows-at law stretch 0 k places (numbered-line law stretch line) (omega arith) (omega arith))
                 ∙ ap (λ t. rows_noted law t k) (sym a),
           )
     ]

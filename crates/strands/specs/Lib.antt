@@ -1,4 +1,5 @@
 pub mod Beside
+pub mod Hubs
 pub mod Marks
 pub mod Seams
 pub mod Sections

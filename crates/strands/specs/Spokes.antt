@@ -1,8 +1,13 @@
 -- The spokes of a node: for each pipe end at it a stretch of the places of that pipe from the end
 -- inward.
-use Rattle.std.specs.Prelude.{◌≡◌, ℕ, ◌+◌, ◌-◌, ◌≤◌, ◌==◌, ◌&&◌, Bool, true, false, min}
+use Rattle.std.specs.List.{list_any}
+use Rattle.std.specs.Prelude.{◌≡◌, ℕ, ◌+◌, ◌-◌, ◌<◌, ◌≤◌, ◌==◌, ◌&&◌, Bool, true, false, List, min}
+use Rattle.std.specs.Prelude.{not}
 use Rattle.case_model.specs.Meaning.{Meaning}
-use Rattle.case_model.specs.Mesh.{reaches}
+use Rattle.case_model.specs.Mesh.{next_to, reaches}
+use Rattle.case_model.specs.Rows.{row}
+use Rattle.case_model.specs.declared.points.Point.{Point}
+use Rattle.strands.specs.Beside.{inner_side, outer_side}
 use Rattle.case_model.specs.declared.meshes.End.{End}
 use Rattle.envelope.specs.Cells.{AreInOneSpan}
 use Rattle.envelope.specs.Folds.{IsSameFold, Stands, spans_of}
@@ -82,18 +87,55 @@ inner_low false n most = 1
 abbrev pub is_only : ℕ → ℕ → Marks
 is_only step place s k = (s == step) && (k == place)
 
--- the fold has the spoke's end and its triangle, up to distance `most`
-abbrev pub NotesSpoke : ℕ → Spoke → Fold → Type 0
-NotesSpoke most spoke fold =
-    AreInOneSpan (spans_of fold)
-    (spoke.stretch.number + run_low spoke.last (count_of spoke.stretch - 1) most) (most + 1)
+-- the first of a spoke's places without the farthest from the end
+abbrev pub nearer_low : Bool → ℕ
+nearer_low true = 1
+nearer_low false = 0
 
--- one step of a window computes a spoke further, and the fold was told of it
+-- the fold has all places of a spoke without the farthest: the end and its triangle
+abbrev pub NotesSpoke : Spoke → Fold → Type 0
+NotesSpoke spoke fold =
+    AreInOneSpan (spans_of fold) (spoke.stretch.number + nearer_low spoke.last)
+    (count_of spoke.stretch - 1)
+
+-- the block of the window from step s on that a spoke takes in, and the one that it hands on
+abbrev pub spoke_outer : Meaning → ℕ → ℕ → Spoke → ℕ → Point
+spoke_outer law w s spoke =
+    outer_side law spoke.stretch (not spoke.last) (end_place spoke.last (half w)) s
+
+abbrev pub spoke_inner : Meaning → ℕ → ℕ → Spoke → ℕ → Point
+spoke_inner law w s spoke =
+    inner_side law spoke.stretch (not spoke.last) (end_place spoke.last (half w)) w s
+
+-- the point beside the end at a step of a window, where the spoke is computed up to it
+abbrev pub IsBeside : ℕ → Spoke → Point → Type 0
+IsBeside step spoke point =
+    (law : Meaning) (w s k : ℕ) → IsSpokeAfter law w s k spoke → k < w → step ≡ s + k
+    → point ≡ (row law step).point spoke.stretch.pipe (next_to law.mesh
+    (record { pipe = spoke.stretch.pipe; at_last = spoke.last }))
+
+-- the steps of the window from step s on, after the first `from` up to `until` of them, at the
+-- places of some spokes
+abbrev pub spokes_marks : ℕ → ℕ → ℕ → ℕ → List Spoke → Marks
+spokes_marks w s from until spokes t p =
+    list_any (λ spoke. is_between spoke.stretch (spoke_front spoke.last w s from)
+    (spoke_front spoke.last w s until) t p) spokes
+
+-- step 0 at the ends of some spokes
+abbrev pub ends_marks : ℕ → List Spoke → Marks
+ends_marks w spokes t p =
+    list_any (λ spoke. is_only 0 (spoke.stretch.number + end_place spoke.last (half w)) t p) spokes
+
+-- a spoke is computed by one step more, and has no whole block any more
+pub record IsSpokeLater (law : Meaning) (w s k : ℕ) (old new : Spoke) : Type 0 where
+  pub same : IsSameSpoke old new
+  pub bare : new.loaded ≡ false
+  pub computed : IsSpokeAfter law w s (k + 1) new
+
+-- and the fold was told of it
 pub record IsSpokeStepped (law : Meaning) (w s k : ℕ) (old new : Spoke) (before after : Fold)
     : Type 0 where
-  pub same : IsSameSpoke old new
-  pub loaded_is : new.loaded ≡ old.loaded
-  pub computed : IsSpokeAfter law w s (k + 1) new
+  pub later : IsSpokeLater law w s k old new
   pub same_fold : IsSameFold before after
   pub stands : (marks : Marks) → Stands before (marked law marks)
       → Stands after (marked law (or_marked marks

@@ -4,6 +4,8 @@
 
 mod besides;
 mod blocks;
+mod hubs;
+mod ranges;
 mod seams;
 mod sections;
 mod spokes;
@@ -11,6 +13,7 @@ mod stations;
 
 pub use besides::{load_beside, write_beside};
 pub use blocks::{load_side, write_side};
+pub use hubs::Hub;
 pub use seams::Seam;
 pub use sections::{advance, advance_region, advance_start};
 pub use spokes::Spoke;

@@ -12,7 +12,7 @@ ghost use Rattle.fronts.specs.Stretches.{count_of};
 ghost use Rattle.strands.specs.Beside.{inner_side, outer_side};
 ghost use Rattle.strands.specs.Spokes.{IsNewSpoke, IsSameSpoke, IsSpoke, IsSpokeAfter, IsSpokeAt};
 ghost use Rattle.strands.specs.Spokes.{NotesSpoke, end_place, inner_low as low_inside, is_only};
-ghost use Rattle.strands.specs.Spokes.{IsSpokeStepped, run_low};
+ghost use Rattle.strands.specs.Spokes.{IsBeside, IsSpokeStepped, run_low, spoke_inner, spoke_outer};
 ghost use Rattle.strands.specs.Marks.{Marks, marked, or_marked};
 ghost use Rattle.strands.specs.Sections.{IsAdvanced, IsNumberedLine};
 ghost use Rattle.strands.specs.Stations.{half};
@@ -70,7 +70,7 @@ impl Spoke {
     pub fn note_start(&self, fold: &mut Fold)
         requires some { 2 ≤ count_of self.now.stretch }
         requires few { self.now.stretch.number + count_of self.now.stretch < 2 ^ 32 }
-        requires noted { NotesSpoke 0 self.now fold.old }
+        requires noted { NotesSpoke self.now fold.old }
         ensures same { IsSameFold fold.old fold.new }
         ensures stands { (law : Meaning) (w : ℕ) (marks : Marks) → IsSpokeAt law w 0 self.now →
             Stands fold.old (marked law marks) →
@@ -93,8 +93,7 @@ impl Spoke {
         ensures same { IsSameSpoke self.old self.new }
         ensures loaded { self.new.loaded ≡ true }
         ensures at { (law : Meaning) → IsMeaning law → IsSpokeAt law window start self.old →
-            HasPoints window (outer_side law self.old.stretch (not self.old.last)
-            (end_place self.old.last (half window)) start) words.now →
+            HasPoints window (spoke_outer law window start self.old) words.now →
             IsSpokeAt law window start self.new }
     {
         if !self.loaded {
@@ -112,8 +111,7 @@ impl Spoke {
         requires size { count_of self.now.stretch ≡ half window + 1 }
         requires room { start + window < 2 ^ 64 }
         ensures { (law : Meaning) → IsSpokeAfter law window start window self.now →
-            HasPoints window (inner_side law self.now.stretch (not self.now.last)
-            (end_place self.now.last (half window)) window start) out.new }
+            HasPoints window (spoke_inner law window start self.now) out.new }
     {
         write_beside(&self.stretch, !self.last, self.end(), window, start, out);
     }
@@ -160,10 +158,7 @@ impl Spoke {
     // The point beside the end that is kept for the parity of a step.
     pub(crate) fn beside(&self, step: u64) -> Point
         requires { 2 ≤ count_of self.now.stretch }
-        ensures point { (law : Meaning) (w s k : ℕ) → IsSpokeAfter law w s k self.now → k < w →
-            step ≡ s + k →
-            result ≡ (row law step).point self.now.stretch.pipe (next_to law.mesh
-            (record { pipe = self.now.stretch.pipe; at_last = self.now.last })) }
+        ensures point { IsBeside step self.now result }
         ensures in_range { IsPoint result }
     {
         let place = if self.last {
@@ -198,11 +193,10 @@ impl Spoke {
     )
         requires line { IsNumberedLine (L.meaning law.now) self.old.stretch }
         requires inside { most + 1 < count_of self.old.stretch }
-        requires noted { NotesSpoke most self.old fold.old }
+        requires noted { NotesSpoke self.old fold.old }
         requires room { step + 1 < 2 ^ 64 }
         requires in_range { IsPoint point }
         ensures last { self.new.last ≡ self.old.last }
-        ensures loaded { self.new.loaded ≡ self.old.loaded }
         ensures advanced { (since front later : ℕ → ℕ) →
             Raises step (λ x. x) (run_low self.old.last (count_of self.old.stretch - 1) most)
             (run_low self.old.last (count_of self.old.stretch - 1) most + most + 1)
@@ -228,7 +222,7 @@ impl Spoke {
         requires inside { at.done < at.window }
         requires room { at.start + at.window < 2 ^ 64 }
         requires computed { IsSpokeAfter (L.meaning law.now) at.window at.start at.done self.old }
-        requires noted { NotesSpoke ((at.window - 1) / 2) self.old fold.old }
+        requires noted { NotesSpoke self.old fold.old }
         requires in_range { IsPoint point }
         requires point { point
             ≡ spot (L.meaning law.now) self.old.stretch (at.start + at.done + 1)
@@ -238,6 +232,7 @@ impl Spoke {
     {
         let most = at.done.min(at.window - 1 - at.done);
         self.advance(law, fold, at.start + at.done as u64, most, point);
+        self.loaded = false;
     }
 }
 

@@ -1,10 +1,11 @@
 use Rattle.std.proofs.Common.{◌≡◌, ◌+◌, ◌-◌, ◌<◌, ◌≤◌, ◌∙◌, ap, subst, sym, arith, min}
+use Rattle.envelope.specs.Folds.{spans_of}
 use Rattle.envelope.specs.Notings.{union}
 use Rattle.fronts.specs.Fronts.{Raises}
 use Rattle.fronts.specs.Noted.{run_noted}
 use Rattle.fronts.specs.Stretches.{count_of}
 use Rattle.strands.proofs.Marking.{agree-marked, same-split-run, union-marked}
-use Rattle.strands.proofs.Spoking.{low-inside, low-is, places-then, spoke-holds}
+use Rattle.strands.proofs.Spoking.{low-inside, low-is, places-then, spoke-holds, within-spoke}
 use Rattle.strands.specs.Marks.{is_between, marked, or_marked}
 use Rattle.strands.specs.Spokes.{end_place, inner_low, run_low}
 use Rattle.strands.proofs.spokes.Spoke.advance.Goals as goal
@@ -42,3 +43,17 @@ returns-clause-advanced g c = λ since front later ra p h.
           (λ s k l w. union-marked law run marks (is_between old front later) s k (split s k))
           (c.note.ensures.stands (marked law marks) st (agree-marked law run marks (is_between old front later) split));
     }
+
+pub note-requires-clause-span : goal.note-requires-clause-span
+note-requires-clause-span g c =
+    let last = c.args.self.now.last in
+    let old = c.args.self.now.stretch in
+    let most = c.args.most in
+    let n = count_of old - 1 in
+    let size : count_of old ≡ n + 1 = omega (arith, c.requires.inside) in
+    let a : most < n = omega (arith, c.requires.inside) in
+    let low : c.min-low.result ≡ run_low last n most =
+    c.min-low.ensures ∙ ap (λ z. min z c.end-at.result) c.inner_low-low.ensures ∙ ap (min (inner_low last n most)) c.end-at.ensures
+    ∙ low-is last n most a in
+    within-spoke last n most c.min-low.result old.number c.put.new.self.number (count_of old) (spans_of c.args.fold.now) size a low
+    (c.put.ensures.put.same.number_is ∙ c.step_run.ensures.stepped.same.number_is) c.requires.noted
