@@ -1,5 +1,6 @@
 -- The start of a seam: its own point alone, kept and noted.
-use Rattle.std.proofs.Common.{◌≡◌, ℕ, ◌+◌, ◌-◌, ◌*◌, ◌<◌, ◌≤◌, ◌⊎◌, inl, inr, ◌∙◌, ap, sym, refl, arith, Bool, true, false, Some}
+use Rattle.std.proofs.Common.{◌≡◌, ℕ, ◌+◌, ◌-◌, ◌*◌, ◌<◌, ◌≤◌, ◌⊎◌, inl, inr, ◌∙◌, ap, sym, refl}
+use Rattle.std.proofs.Common.{arith, Bool, true, false, Some}
 use Rattle.std.specs.Prelude.{◌^◌, length}
 use Rattle.std.proofs.Math.Bool.{and-false}
 use Rattle.std.proofs.lemmas.Bool.{eq-eqb, le-ltb, lt-ltb, ne_eqb}
@@ -73,7 +74,8 @@ puts-start w place count e = record {
 pub holds-nothing : (law : Meaning) (stretch : Stretch) → Holds law (λ x. 1) (λ x. 0) stretch
 holds-nothing law stretch = record { cell = λ t x b a f g. absurd (omega arith) }
 
-pub start-is : (law : Meaning) (stretch : Stretch) (pipe place at : ℕ) → stretch.pipe ≡ pipe → stretch.first + at ≡ place
+pub start-is : (law : Meaning) (stretch : Stretch) (pipe place at : ℕ) → stretch.pipe ≡ pipe
+    → stretch.first + at ≡ place
     → law.start_point pipe place ≡ spot law stretch 0 at
 start-is law stretch pipe place at e f =
     ap (λ p. law.start_point p place) (sym e) ∙ ap (law.start_point stretch.pipe) (sym f)
@@ -105,7 +107,8 @@ split-start law w stretch left right at s k places line size e h = elim (is-now 
           inl (
             rw (eq-eqb s 0 a, eq-eqb k (stretch.number + at) b) refl,
             run-in stretch 0 at (at + 1) s k a (omega arith) (omega arith)
-                ∙ ap (λ y. Some (OfPoint y)) (h.cell 0 x (omega arith) (omega arith) (omega arith) (omega arith))
+                ∙ ap (λ y. Some (OfPoint y))
+                (h.cell 0 x (omega arith) (omega arith) (omega arith) (omega arith))
                 ∙ sym (rows-at law stretch 0 k places (numbered-line law stretch line) (omega arith) (omega arith))
                 ∙ ap (λ t. rows_noted law t k) (sym a),
           )

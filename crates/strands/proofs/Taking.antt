@@ -1,5 +1,6 @@
 -- The blocks of a station: what it takes in, distance by distance, and what it hands on.
-use Rattle.std.proofs.Common.{◌≡◌, ℕ, ◌+◌, ◌-◌, ◌*◌, ◌/◌, ◌<◌, ◌≤◌, ◌⊎◌, inl, inr, ◌∙◌, ap, sym, refl, arith, Bool, true, false, List}
+use Rattle.std.proofs.Common.{◌≡◌, ℕ, ◌+◌, ◌-◌, ◌*◌, ◌/◌, ◌<◌, ◌≤◌, ◌⊎◌, inl, inr, ◌∙◌, ap, sym}
+use Rattle.std.proofs.Common.{refl, arith, Bool, true, false, List}
 use Rattle.std.specs.Prelude.{◌≢◌}
 use Rattle.std.proofs.Math.Bool.{and-false}
 use Rattle.std.proofs.lemmas.Bool.{eq-eqb, le-leb, le-ltb, lt-leb, lt-ltb, ne_eqb}
@@ -15,7 +16,8 @@ use Rattle.fronts.specs.declared.stretches.Stretch.{Stretch}
 use Rattle.fronts.proofs.Raising.{same-spot}
 use Rattle.strands.proofs.Handing.{before-or-at}
 use Rattle.strands.proofs.Loading.{with, with-here, with-there}
-use Rattle.strands.specs.Beside.{HasBeside, IsTriangle, beside, inner_side, is_beside, outer_side, taken_front, taken_since}
+use Rattle.strands.specs.Beside.{HasBeside, IsTriangle, beside, inner_side, is_beside, outer_side}
+use Rattle.strands.specs.Beside.{taken_front, taken_since}
 use Rattle.strands.specs.Words.{HasPoints, IsWritten, quad, station_step}
 
 below : (x y : ℕ) → (x < y) ⊎ (y ≤ x)
@@ -23,26 +25,32 @@ below x y = grind arith
 
 -- ---- places beside a station
 
-pub nearer : (right : Bool) (at far d count : ℕ) → HasBeside right at far count → d ≤ far → HasBeside right at d count
+pub nearer : (right : Bool) (at far d count : ℕ) → HasBeside right at far count → d ≤ far
+    → HasBeside right at d count
 nearer true at far d count h a = omega arith
 nearer false at far d count h a = let b : far ≤ at = h.0 in (omega arith, h.1)
 
-pub place-inside : (right : Bool) (at d count : ℕ) → HasBeside right at d count → beside right at d < count
+pub place-inside : (right : Bool) (at d count : ℕ) → HasBeside right at d count
+    → beside right at d < count
 place-inside true at d count h = h
 place-inside false at d count h = let a : d ≤ at = h.0 in let b : at < count = h.1 in omega arith
 
-distance-of : (right : Bool) (at d count : ℕ) → HasBeside right at d count → from_place at (beside right at d) ≡ d
+distance-of : (right : Bool) (at d count : ℕ) → HasBeside right at d count
+    → from_place at (beside right at d) ≡ d
 distance-of true at d count h = omega arith
 distance-of false at d count h = let a : d ≤ at = h.0 in omega arith
 
-is-in : (right : Bool) (at d count : ℕ) → 1 ≤ d → HasBeside right at d count → is_beside right at d (beside right at d) ≡ true
-is-in true at d count a h = rw (lt-ltb at (at + d) (omega arith), le-leb (at + d) (at + d) (omega arith)) refl
+is-in : (right : Bool) (at d count : ℕ) → 1 ≤ d → HasBeside right at d count
+    → is_beside right at d (beside right at d) ≡ true
+is-in true at d count a h =
+    rw (lt-ltb at (at + d) (omega arith), le-leb (at + d) (at + d) (omega arith)) refl
 is-in false at d count a h =
     let b : d ≤ at = h.0 in
     rw (lt-ltb (at - d) at (omega arith), le-leb at (at - d + d) (omega arith)) refl
 
 -- at another place one more distance changes nothing
-is-as : (right : Bool) (at d count x : ℕ) → 1 ≤ d → HasBeside right at d count → x ≢ beside right at d
+is-as : (right : Bool) (at d count x : ℕ) → 1 ≤ d → HasBeside right at d count
+    → x ≢ beside right at d
     → is_beside right at d x ≡ is_beside right at (d - 1) x
 is-as true at d count x a h k = elim (below at x) [
   | inr b ↦ rw (le-ltb at x b) refl
@@ -77,25 +85,29 @@ is-none false at x = elim (below x at) [
 
 -- ---- the front while the section's points are taken in
 
-front-here : (right : Bool) (at w s d count place : ℕ) (front : ℕ → ℕ) → 1 ≤ d → HasBeside right at d count
+front-here : (right : Bool) (at w s d count place : ℕ) (front : ℕ → ℕ) → 1 ≤ d
+    → HasBeside right at d count
     → place ≡ beside right at d → taken_front right at w s d front place ≡ fan s w 0 d
 front-here right at w s d count place front a h e =
     ap (taken_front right at w s d front) e
     ∙ rw (is-in right at d count a h) (ap (fan s w 0) (distance-of right at d count h))
 
-since-here : (right : Bool) (at s d count place : ℕ) (since : ℕ → ℕ) → 1 ≤ d → HasBeside right at d count
+since-here : (right : Bool) (at s d count place : ℕ) (since : ℕ → ℕ) → 1 ≤ d
+    → HasBeside right at d count
     → place ≡ beside right at d → taken_since right at s d since place ≡ fan_since s d
 since-here right at s d count place since a h e =
     ap (taken_since right at s d since) e
     ∙ rw (is-in right at d count a h) (ap (fan_since s) (distance-of right at d count h))
 
-front-there : (right : Bool) (at w s d count place x : ℕ) (front : ℕ → ℕ) → 1 ≤ d → HasBeside right at d count
+front-there : (right : Bool) (at w s d count place x : ℕ) (front : ℕ → ℕ) → 1 ≤ d
+    → HasBeside right at d count
     → place ≡ beside right at d → x ≢ place
     → taken_front right at w s d front x ≡ taken_front right at w s (d - 1) front x
 front-there right at w s d count place x front a h e k =
     rw (is-as right at d count x a h (λ z. k (z ∙ sym e))) refl
 
-since-there : (right : Bool) (at s d count place x : ℕ) (since : ℕ → ℕ) → 1 ≤ d → HasBeside right at d count
+since-there : (right : Bool) (at s d count place x : ℕ) (since : ℕ → ℕ) → 1 ≤ d
+    → HasBeside right at d count
     → place ≡ beside right at d → x ≢ place
     → taken_since right at s d since x ≡ taken_since right at s (d - 1) since x
 since-there right at s d count place x since a h e k =
@@ -114,10 +126,13 @@ pub puts-new : (place step count : ℕ) (since front : ℕ → ℕ)
 puts-new place step count since front = record {
   here = with-here place step front;
   kept = λ t e l. let h = with-here place step since in absurd (omega arith);
-  beside = λ x b h. let e = with-there place step since x h in (with-there place step front x h, omega arith);
+  beside =
+      λ x b h. let e = with-there place step since x h in
+      (with-there place step front x h, omega arith);
 }
 
-pub puts-pair : (right : Bool) (at w s d count place : ℕ) (since front : ℕ → ℕ) → IsNear right at w d count place
+pub puts-pair : (right : Bool) (at w s d count place : ℕ) (since front : ℕ → ℕ)
+    → IsNear right at w d count place
     → 2 * d - 1 < w
     → Puts (s + (d - 1) + 1) place count
     (with place (s + (d - 1)) (taken_since right at s (d - 1) since))
@@ -125,8 +140,10 @@ pub puts-pair : (right : Bool) (at w s d count place : ℕ) (since front : ℕ �
     (taken_since right at s d since) (taken_front right at w s d front)
 puts-pair right at w s d count place since front is b =
     let a : 1 ≤ d = is.some in
-    let f : taken_front right at w s d front place ≡ fan s w 0 d = front-here right at w s d count place front a is.has is.place_is in
-    let g : taken_since right at s d since place ≡ fan_since s d = since-here right at s d count place since a is.has is.place_is in
+    let f : taken_front right at w s d front place ≡ fan s w 0 d =
+    front-here right at w s d count place front a is.has is.place_is in
+    let g : taken_since right at s d since place ≡ fan_since s d =
+    since-here right at s d count place since a is.has is.place_is in
     record {
       here = f ∙ omega arith;
       kept = λ t e l.
@@ -142,7 +159,8 @@ puts-pair right at w s d count place since front is b =
           );
     }
 
-pub puts-one : (right : Bool) (at w s d count place : ℕ) (since front : ℕ → ℕ) → IsNear right at w d count place
+pub puts-one : (right : Bool) (at w s d count place : ℕ) (since front : ℕ → ℕ)
+    → IsNear right at w d count place
     → w ≤ 2 * d - 1
     → Puts (s + (d - 1)) place count
     (taken_since right at s (d - 1) since) (taken_front right at w s (d - 1) front)
@@ -150,8 +168,10 @@ pub puts-one : (right : Bool) (at w s d count place : ℕ) (since front : ℕ �
 puts-one right at w s d count place since front is b =
     let a : 1 ≤ d = is.some in
     let n : 2 * d ≤ w + 1 = is.near in
-    let f : taken_front right at w s d front place ≡ fan s w 0 d = front-here right at w s d count place front a is.has is.place_is in
-    let g : taken_since right at s d since place ≡ fan_since s d = since-here right at s d count place since a is.has is.place_is in
+    let f : taken_front right at w s d front place ≡ fan s w 0 d =
+    front-here right at w s d count place front a is.has is.place_is in
+    let g : taken_since right at s d since place ≡ fan_since s d =
+    since-here right at s d count place since a is.has is.place_is in
     record {
       here = f ∙ omega arith;
       kept = λ t e l. absurd (omega arith);
@@ -163,7 +183,8 @@ puts-one right at w s d count place since front is b =
 -- ---- the points of the words
 
 -- point number j of the words is that of the rows
-outer-point : (law : Meaning) (stretch : Stretch) (right : Bool) (at w s d j step place : ℕ) (words : List ℕ) (point : Point)
+outer-point : (law : Meaning) (stretch : Stretch) (right : Bool) (at w s d j step place : ℕ)
+    (words : List ℕ) (point : Point)
     → IsMeaning law → j < w → j / 2 + 1 ≡ d → place ≡ beside right at d → step ≡ s + (j + 1) / 2
     → HasPoints w (outer_side law stretch right at s) words
     → ((p : Point) → IsPoint p → quad words j ≡ words_of p → point ≡ p)
@@ -171,13 +192,15 @@ outer-point : (law : Meaning) (stretch : Stretch) (right : Bool) (at w s d j ste
 unfolding outer_side
 outer-point law stretch right at w s d j step place words point m b half is e points tells =
     tells (spot law stretch (s + (j + 1) / 2) (beside right at (j / 2 + 1)))
-    ((row-good law m (s + (j + 1) / 2)).points stretch.pipe (stretch.first + beside right at (j / 2 + 1)))
+    ((row-good law m (s + (j + 1) / 2)).points stretch.pipe
+    (stretch.first + beside right at (j / 2 + 1)))
     (points.each j b)
     ∙ ap (λ z. spot law stretch (s + (j + 1) / 2) (beside right at z)) half
     ∙ ap (spot law stretch (s + (j + 1) / 2)) (sym is)
     ∙ ap (λ t. spot law stretch t place) (sym e)
 
-pub outer-first : (law : Meaning) (stretch : Stretch) (right : Bool) (at w s d count place : ℕ) (words : List ℕ) (point : Point)
+pub outer-first : (law : Meaning) (stretch : Stretch) (right : Bool) (at w s d count place : ℕ)
+    (words : List ℕ) (point : Point)
     → IsMeaning law → IsNear right at w d count place
     → HasPoints w (outer_side law stretch right at s) words
     → ((p : Point) → IsPoint p → quad words (2 * d - 2) ≡ words_of p → point ≡ p)
@@ -185,31 +208,40 @@ pub outer-first : (law : Meaning) (stretch : Stretch) (right : Bool) (at w s d c
 outer-first law stretch right at w s d count place words point m is points tells =
     let a : 1 ≤ d = is.some in
     let n : 2 * d ≤ w + 1 = is.near in
-    outer-point law stretch right at w s d (2 * d - 2) (s + (d - 1)) place words point m (omega arith) (omega arith)
+    outer-point law stretch right at w s d (2 * d - 2) (s + (d - 1)) place words point m
+    (omega arith) (omega arith)
     is.place_is (omega arith) points tells
 
-pub outer-second : (law : Meaning) (stretch : Stretch) (right : Bool) (at w s d count place : ℕ) (words : List ℕ) (point : Point)
+pub outer-second : (law : Meaning) (stretch : Stretch) (right : Bool) (at w s d count place : ℕ)
+    (words : List ℕ) (point : Point)
     → IsMeaning law → IsNear right at w d count place → 2 * d - 1 < w
     → HasPoints w (outer_side law stretch right at s) words
     → ((p : Point) → IsPoint p → quad words (2 * d - 1) ≡ words_of p → point ≡ p)
     → point ≡ spot law stretch (s + (d - 1) + 1) place
 outer-second law stretch right at w s d count place words point m is b points tells =
     let a : 1 ≤ d = is.some in
-    outer-point law stretch right at w s d (2 * d - 1) (s + (d - 1) + 1) place words point m b (omega arith)
+    outer-point law stretch right at w s d (2 * d - 1) (s + (d - 1) + 1) place words point m b
+    (omega arith)
     is.place_is (omega arith) points tells
 
 -- the block of a stretch of the same places
-pub same-outer : (law : Meaning) (old new : Stretch) (right : Bool) (at w s : ℕ) (words : List ℕ) → AreSamePlaces old new
-    → HasPoints w (outer_side law old right at s) words → HasPoints w (outer_side law new right at s) words
+pub same-outer : (law : Meaning) (old new : Stretch) (right : Bool) (at w s : ℕ) (words : List ℕ)
+    → AreSamePlaces old new
+    → HasPoints w (outer_side law old right at s) words
+    → HasPoints w (outer_side law new right at s) words
 unfolding outer_side
 same-outer law old new right at w s words same h = record {
-  each = λ j b. h.each j b ∙ ap words_of (sym (same-spot law old new (s + (j + 1) / 2) (beside right at (j / 2 + 1)) same));
+  each =
+      λ j b. h.each j b ∙ ap words_of
+      (sym (same-spot law old new (s + (j + 1) / 2) (beside right at (j / 2 + 1)) same));
 }
 
 -- ---- all distances
 
-pub taken-none : (law : Meaning) (stretch : Stretch) (right : Bool) (at w s : ℕ) (since front : ℕ → ℕ)
-    → Holds law since front stretch → Holds law (taken_since right at s 0 since) (taken_front right at w s 0 front) stretch
+pub taken-none : (law : Meaning) (stretch : Stretch) (right : Bool) (at w s : ℕ)
+    (since front : ℕ → ℕ)
+    → Holds law since front stretch
+    → Holds law (taken_since right at s 0 since) (taken_front right at w s 0 front) stretch
 taken-none law stretch right at w s since front h = record {
   cell = λ t x b a f g.
       let n : is_beside right at 0 x ≡ false = is-none right at x in
@@ -220,7 +252,8 @@ taken-none law stretch right at w s since front h = record {
 
 -- ---- what the station hands on
 
-step-of : (w s j : ℕ) → j < w → (s + (w - 1 - j / 2) ≤ s + station_step w j) × (s + station_step w j ≤ s + (w - j / 2))
+step-of : (w s j : ℕ) → j < w
+    → (s + (w - 1 - j / 2) ≤ s + station_step w j) × (s + station_step w j ≤ s + (w - j / 2))
 step-of w s j b = elim (below (j + 1) w) [
   | inl a ↦ rw (ne_eqb (j + 1) w (λ e. omega arith)) (omega arith, omega arith)
   | inr a ↦ rw (eq-eqb (j + 1) w (omega arith)) (omega arith, omega arith)
@@ -238,18 +271,22 @@ inner-more law stretch right at w s j since front a b is h =
     let f : front (beside right at (j / 2)) ≡ s + (w - j / 2) = is.front_is (j / 2) (omega arith) in
     let g : since (beside right at (j / 2)) ≤ s + j / 2 = is.since_is (j / 2) (omega arith) in
     h.cell (s + station_step w j) (beside right at (j / 2))
-    (place-inside right at (j / 2) (count_of stretch) (nearer right at ((w - 1) / 2) (j / 2) (count_of stretch) a (omega arith)))
+    (place-inside right at (j / 2) (count_of stretch)
+    (nearer right at ((w - 1) / 2) (j / 2) (count_of stretch) a (omega arith)))
     (omega arith) (omega arith) (omega arith)
 
-pub inner-written : (law : Meaning) (stretch : Stretch) (right : Bool) (at w s j step place : ℕ) (since front : ℕ → ℕ)
+pub inner-written : (law : Meaning) (stretch : Stretch) (right : Bool) (at w s j step place : ℕ)
+    (since front : ℕ → ℕ)
     (point : Point) (old new : List ℕ)
     → HasBeside right at ((w - 1) / 2) (count_of stretch) → j < w
     → IsTriangle right at w s since front → Holds law since front stretch
-    → step ≡ station_step w j → place ≡ beside right at (j / 2) → point ≡ kept stretch (s + step) place
+    → step ≡ station_step w j → place ≡ beside right at (j / 2)
+    → point ≡ kept stretch (s + step) place
     → HasPoints j (inner_side law stretch right at w s) old → IsWritten j point old new
     → HasPoints (j + 1) (inner_side law stretch right at w s) new
 unfolding inner_side
-inner-written law stretch right at w s j step place since front point old new a b is h e f p points put =
+inner-written law stretch right at w s j step place since front point old new a b is h e f p
+    points put =
     let here : point ≡ spot law stretch (s + station_step w j) (beside right at (j / 2)) =
     p ∙ ap (λ t. kept stretch (s + t) place) e ∙ ap (kept stretch (s + station_step w j)) f
     ∙ inner-more law stretch right at w s j since front a b is h in
@@ -257,6 +294,7 @@ inner-written law stretch right at w s j step place since front point old new a 
       each = λ i l. elim (before-or-at i j l) [
         | inl k ↦ put.beside i (λ z. omega arith) ∙ points.each i k
         | inr k ↦ ap (quad new) k ∙ put.here ∙ ap words_of here
-            ∙ ap (λ z. words_of (spot law stretch (s + station_step w z) (beside right at (z / 2)))) (sym k)
+            ∙ ap (λ z. words_of (spot law stretch (s + station_step w z) (beside right at (z / 2))))
+            (sym k)
       ];
     }

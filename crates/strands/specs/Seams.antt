@@ -4,10 +4,20 @@ use Rattle.std.specs.Prelude.{true, false, if◌then◌else◌}
 use Rattle.case_model.specs.Meaning.{Meaning}
 use Rattle.fronts.specs.Fronts.{Holds}
 use Rattle.fronts.specs.Stretches.{AreSamePlaces, IsStretchOf, count_of}
+use Rattle.fronts.specs.declared.stretches.Stretch.{Stretch}
 use Rattle.strands.specs.Marks.{Marks}
 use Rattle.strands.specs.Sections.{IsLine}
 use Rattle.strands.specs.Stations.{half, seam_front, seam_since}
 use Rattle.strands.specs.declared.seams.Seam.{Seam}
+
+-- the places of a seam
+abbrev pub stretch_of : Seam → Stretch
+stretch_of seam = seam.stretch
+
+-- whether the block of the section at its right or its left is loaded
+abbrev pub has_block : Bool → Seam → Bool
+has_block true seam = seam.right
+has_block false seam = seam.left
 
 -- whether what lies at the side of place x is loaded; c is the seam's place
 abbrev pub is_loaded : Bool → Bool → ℕ → ℕ → Bool
@@ -47,8 +57,8 @@ pub record IsSeamOf (pipe place number w : ℕ) (seam : Seam) : Type 0 where
 -- the block of one side is loaded, and nothing else of what seams are made of has changed
 pub record IsLoaded (right : Bool) (old new : Seam) : Type 0 where
   pub same : AreSamePlaces old.stretch new.stretch
-  pub left_is : new.left ≡ (old.left || not right)
-  pub right_is : new.right ≡ (old.right || right)
+  pub left_is : new.left ≡ (not right || old.left)
+  pub right_is : new.right ≡ (right || old.right)
 
 -- the place number of the seam itself: it stands in the middle of its stretch
 abbrev pub number_of_seam : Seam → ℕ

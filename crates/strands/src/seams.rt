@@ -18,7 +18,8 @@ pub struct Seam {
 }
 
 impl Seam {
-    ghost use Rattle.std.specs.Prelude.{ℕ, ◌+◌, ◌-◌, ◌*◌, ◌/◌, ◌^◌, ◌<◌, ◌≤◌, length, IfOk, true};
+    ghost use Rattle.std.specs.Prelude.{ℕ, ◌+◌, ◌-◌, ◌*◌, ◌/◌, ◌^◌, ◌<◌, ◌≤◌, length, IfOk};
+    ghost use Rattle.std.specs.Prelude.{true, false};
     ghost use Rattle.case_model.specs.Meaning.{IsMeaning, Meaning};
     ghost use Rattle.case_model.specs.Mesh.{IsNumbered, base_of, reaches};
     ghost use Rattle.envelope.specs.Cells.{AreInOneSpan};
@@ -27,7 +28,7 @@ impl Seam {
     ghost use Rattle.strands.specs.Beside.{inner_side, outer_side};
     ghost use Rattle.strands.specs.Marks.{Marks, is_between, marked, or_marked};
     ghost use Rattle.strands.specs.Seams.{IsLoaded, IsSeamAt, IsSeamDone, IsSeamOf};
-    ghost use Rattle.strands.specs.Seams.{number_of_seam, starts};
+    ghost use Rattle.strands.specs.Seams.{has_block, number_of_seam, starts, stretch_of};
     ghost use Rattle.strands.specs.Stations.{NotesTriangles, half, seam_front};
     ghost use Rattle.strands.specs.Words.{HasPoints};
 
@@ -65,8 +66,8 @@ impl Seam {
 
     /// Notes the seam's own point at step 0.
     pub fn note_start(&self, fold: &mut Fold)
-        requires some { 1 ≤ count_of self.now.stretch }
-        requires fits { self.now.stretch.number + count_of self.now.stretch < 2 ^ 64 }
+        requires some { 1 ≤ count_of (stretch_of self.now) }
+        requires fits { (stretch_of self.now).number + count_of (stretch_of self.now) < 2 ^ 64 }
         requires noted { AreInOneSpan (spans_of fold.old) (number_of_seam self.now) 1 }
         ensures same_fold { IsSameFold fold.old fold.new }
         ensures stands { (law : Meaning) (w : ℕ) (marks : Marks) → IsSeamAt law w 0 self.now →
@@ -83,11 +84,11 @@ impl Seam {
     /// `start`. Where it is loaded already this changes nothing.
     pub fn load(&mut self, right: bool, window: usize, start: u64, words: &[u64])
         requires each { length words.now ≡ 4 * window }
-        requires size { count_of self.old.stretch ≡ 2 * half window + 1 }
+        requires size { count_of (stretch_of self.old) ≡ 2 * half window + 1 }
         requires room { start + window < 2 ^ 64 }
         ensures loaded { IsLoaded right self.old self.new }
         ensures holds { (law : Meaning) → IsMeaning law → IsSeamAt law window start self.old →
-            HasPoints window (outer_side law self.old.stretch right (half window) start)
+            HasPoints window (outer_side law (stretch_of self.old) right (half window) start)
             words.now → IsSeamAt law window start self.new }
     {
         let at = window.div_ceil(2);
@@ -106,17 +107,17 @@ impl Seam {
     /// notes them. Then no block is loaded.
     pub fn compute<L: Law>(&mut self, law: &L, window: usize, start: u64, fold: &mut Fold)
         requires seam { IsSeamAt (L.meaning law.now) window start self.old }
-        requires left { self.old.left ≡ true }
-        requires right { self.old.right ≡ true }
-        requires noted { NotesTriangles window self.old.stretch fold.old }
+        requires left { has_block false self.old ≡ true }
+        requires right { has_block true self.old ≡ true }
+        requires noted { NotesTriangles window (stretch_of self.old) fold.old }
         requires room { start + window < 2 ^ 64 }
         ensures done { IsSeamDone (L.meaning law.now) window start self.new }
         ensures next { IsSeamAt (L.meaning law.now) window (start + window) self.new }
-        ensures same { AreSamePlaces self.old.stretch self.new.stretch }
+        ensures same { AreSamePlaces (stretch_of self.old) (stretch_of self.new) }
         ensures same_fold { IsSameFold fold.old fold.new }
         ensures stands { (marks : Marks) → Stands fold.old (marked (L.meaning law.now) marks) →
             Stands fold.new (marked (L.meaning law.now) (or_marked marks
-            (is_between self.old.stretch (seam_front window start 0)
+            (is_between (stretch_of self.old) (seam_front window start 0)
             (seam_front window start window)))) }
     {
         advance_seam(law, window, start, &mut self.stretch, fold);
@@ -128,10 +129,10 @@ impl Seam {
     pub fn write(&self, right: bool, window: usize, start: u64, out: &mut [u64])
         requires each { length out.old ≡ 4 * window }
         requires some { 1 ≤ window }
-        requires size { count_of self.now.stretch ≡ 2 * half window + 1 }
+        requires size { count_of (stretch_of self.now) ≡ 2 * half window + 1 }
         requires room { start + window < 2 ^ 64 }
         ensures { (law : Meaning) → IsSeamDone law window start self.now →
-            HasPoints window (inner_side law self.now.stretch right (half window) window start)
+            HasPoints window (inner_side law (stretch_of self.now) right (half window) window start)
             out.new }
     {
         write_beside(&self.stretch, right, window.div_ceil(2), window, start, out);

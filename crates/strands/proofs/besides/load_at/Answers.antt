@@ -14,16 +14,26 @@ returns-then-distance-window-clause-holds c = λ law right at since front m has 
     let place = c.args.place in
     let old = c.args.stretch.now in
     let mid = c.put.new.self in
-    let is : IsNear right at w d (count_of old) place = record { some = c.requires.some; near = c.requires.near; has = has; place_is = e } in
+    let is : IsNear right at w d (count_of old) place =
+    record { some = c.requires.some; near = c.requires.near; has = has; place_is = e } in
     let t : 2 * d - 1 < w = c.if-distance-window.true in
-    let one = outer-first law old right at w s d (count_of old) place c.args.words.now c.point_in.result m is points c.point_in.ensures.point in
-    let two = outer-second law old right at w s d (count_of old) place c.args.words.now c.point_in-then-distance-window.result m is t points c.point_in-then-distance-window.ensures.point in
+    let one =
+    outer-first law old right at w s d (count_of old) place c.args.words.now c.point_in.result m is
+    points c.point_in.ensures.point in
+    let two =
+    outer-second law old right at w s d (count_of old) place c.args.words.now
+    c.point_in-then-distance-window.result m is t points
+    c.point_in-then-distance-window.ensures.point in
     let sooner = with place (s + (d - 1)) (taken_since right at s (d - 1) since) in
     let later = with place (s + (d - 1)) (taken_front right at w s (d - 1) front) in
-    let first = c.put.ensures.holds law (taken_since right at s (d - 1) since) (taken_front right at w s (d - 1) front) sooner later
-    (puts-new place (s + (d - 1)) (count_of old) (taken_since right at s (d - 1) since) (taken_front right at w s (d - 1) front)) one h in
+    let first =
+    c.put.ensures.holds law (taken_since right at s (d - 1) since)
+    (taken_front right at w s (d - 1) front) sooner later
+    (puts-new place (s + (d - 1)) (count_of old) (taken_since right at s (d - 1) since)
+    (taken_front right at w s (d - 1) front)) one h in
     let size = c.put.ensures.put.same.count_is in
-    c.put-then-distance-window.ensures.holds law sooner later (taken_since right at s d since) (taken_front right at w s d front)
+    c.put-then-distance-window.ensures.holds law sooner later (taken_since right at s d since)
+    (taken_front right at w s d front)
     (rw size (puts-pair right at w s d (count_of old) place since front is t))
     (two ∙ sym (same-spot law old mid (s + (d - 1) + 1) place c.put.ensures.put.same)) first
 
@@ -34,9 +44,14 @@ returns-else-distance-window-clause-holds c = λ law right at since front m has 
     let d = c.args.distance in
     let place = c.args.place in
     let old = c.args.stretch.now in
-    let is : IsNear right at w d (count_of old) place = record { some = c.requires.some; near = c.requires.near; has = has; place_is = e } in
+    let is : IsNear right at w d (count_of old) place =
+    record { some = c.requires.some; near = c.requires.near; has = has; place_is = e } in
     let t : w ≤ 2 * d - 1 = c.if-distance-window.false in
-    let one = outer-first law old right at w s d (count_of old) place c.args.words.now c.point_in-else-distance-window.result m is points c.point_in-else-distance-window.ensures.point in
-    c.put-else-distance-window.ensures.holds law (taken_since right at s (d - 1) since) (taken_front right at w s (d - 1) front)
+    let one =
+    outer-first law old right at w s d (count_of old) place c.args.words.now
+    c.point_in-else-distance-window.result m is points c.point_in-else-distance-window.ensures.point
+    in
+    c.put-else-distance-window.ensures.holds law (taken_since right at s (d - 1) since)
+    (taken_front right at w s (d - 1) front)
     (taken_since right at s d since) (taken_front right at w s d front)
     (puts-one right at w s d (count_of old) place since front is t) one h

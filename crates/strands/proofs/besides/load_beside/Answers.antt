@@ -19,7 +19,8 @@ loop-distance-preserved c =
     let s = c.args.start in
     let size : count_of mid ≡ count_of old = inv.count_is in
     let has : HasBeside right at d (count_of mid) = subst (λ n. HasBeside right at d n) (sym size)
-    (nearer right at (half w) d (count_of old) c.requires.inside (omega (arith, c.loop-distance-test.true, c.div_ceil-distance-end.ensures))) in
+    (nearer right at (half w) d (count_of old) c.requires.inside
+    (omega (arith, c.loop-distance-test.true, c.div_ceil-distance-end.ensures))) in
     let e : d ≡ d + 1 - 1 = omega arith in
     record {
       same = record {
@@ -29,7 +30,8 @@ loop-distance-preserved c =
         count_is = now.count_is ∙ inv.count_is;
       };
       holds = λ law since front m points h.
-          subst (λ i. Holds law (taken_since right at s i since) (taken_front right at w s i front) c.load_at.new.stretch) e
+          subst (λ i. Holds law (taken_since right at s i since) (taken_front right at w s i front)
+          c.load_at.new.stretch) e
           (c.load_at.ensures.holds law right at since front m has c.place_beside-place.ensures.place
           (same-outer law old mid right at w s c.args.words.now inv points)
           (c.loop-distance.invariant.holds law since front m points h));

@@ -16,10 +16,14 @@ returns-clause-stands c = λ law w marks is st.
     let at = c.count-at.result / 2 in
     let run = run_noted stretch 0 at (at + 1) in
     let start = starts (stretch.number + at) in
-    let split = λ (s k : ℕ). split-start law w stretch seam.left seam.right at s k c.numbers_tell_places.ensures.place is.line is.size
+    let split =
+    λ (s k : ℕ). split-start law w stretch seam.left seam.right at s k
+    c.numbers_tell_places.ensures.place is.line is.size
     (omega (arith, c.count-at.ensures, is.size)) is.holds in
     let e : c.count-at.result ≡ count_of stretch = c.count-at.ensures in
-    subst (λ z. Stands c.note.new.fold (marked law (or_marked marks (starts (stretch.number + z / 2))))) e
-    (c.stands_for_equal_maps.ensures c.note.new.fold (union (marked law marks) run) (marked law (or_marked marks start))
+    subst (λ z. Stands c.note.new.fold
+    (marked law (or_marked marks (starts (stretch.number + z / 2))))) e
+    (c.stands_for_equal_maps.ensures c.note.new.fold (union (marked law marks) run)
+    (marked law (or_marked marks start))
     (λ s k l i. union-marked law run marks start s k (split s k))
     (c.note.ensures.stands (marked law marks) st (agree-marked law run marks start split)))
