@@ -2,7 +2,7 @@
 use Rattle.std.proofs.Common.{◌≡◌, ℕ, ◌+◌, ◌-◌, ◌<◌, ◌≤◌, ◌⊎◌, inl, inr, ◌∙◌, ap, sym, subst, refl, arith, Bool, true, false, cond, Option, Some, None}
 use Rattle.std.specs.Prelude.{◌||◌}
 use Rattle.std.proofs.Math.Bool.{and-false}
-use Rattle.std.proofs.lemmas.Bool.{lt-ltb, le-ltb, le-leb, lt-leb}
+use Rattle.std.proofs.lemmas.Bool.{eq-eqb, lt-ltb, le-ltb, le-leb, lt-leb, ne_eqb}
 use Rattle.case_model.specs.declared.cases.ProbeAt.{ProbeAt}
 use Rattle.case_model.specs.declared.cases.ProbeAt.TheVariants.{OnPipe}
 use Rattle.case_model.specs.declared.meshes.Mesh.{Mesh}
@@ -17,10 +17,10 @@ use Rattle.envelope.specs.Rows.{noting_at, rows_noted}
 use Rattle.fronts.specs.Bands.{from_ends}
 use Rattle.fronts.specs.Fronts.{Holds, Raises, ever, spot}
 use Rattle.fronts.specs.Noted.{band_noted, run_noted}
-use Rattle.fronts.specs.Stretches.{AreSamePlaces, count_of}
+use Rattle.fronts.specs.Stretches.{AreSamePlaces, count_of, kept}
 use Rattle.fronts.specs.declared.stretches.Stretch.{Stretch}
 use Rattle.fronts.proofs.Lining.{IsOutOfBand, band-in, band-out, in-or-out, is-now, value-of, run-before, run-in, where-is}
-use Rattle.strands.specs.Marks.{Marks, is_between, marked, or_marked}
+use Rattle.strands.specs.Marks.{Marks, is_between, is_only, marked, or_marked}
 use Rattle.strands.specs.Sections.{IsLine, IsNumberedLine}
 
 -- ---- between two fronts
@@ -274,3 +274,34 @@ same-split-run law old new step low high since front later places line same insi
       | inl a ↦ inl (e ∙ a.0, a.1)
       | inr a ↦ inr (e ∙ a.0, a.1)
     ]
+
+-- ---- one point alone is noted
+
+pub split-only : (law : Meaning) (stretch : Stretch) (step at s k : ℕ) → ArePlaces → IsNumberedLine law stretch
+    → at < count_of stretch → kept stretch step at ≡ spot law stretch step at
+    → IsSplit law (run_noted stretch step at (at + 1)) (is_only step (stretch.number + at)) s k
+split-only law stretch step at s k places line b h = elim (is-now s step) [
+  | inr e ↦ inr (rw (ne_eqb s step e) refl, run-before stretch step at (at + 1) s k (inl e))
+  | inl e ↦ elim (where-is k (stretch.number + at) (stretch.number + at + 1)) [
+    | inl a ↦ inr (rw (ne_eqb k (stretch.number + at) (λ f. omega arith), and-false) refl, run-before stretch step at (at + 1) s k (inr (inl a)))
+    | inr c ↦ elim c [
+      | inl a ↦ inr (
+        rw (ne_eqb k (stretch.number + at) (λ f. omega arith), and-false) refl,
+        run-before stretch step at (at + 1) s k (inr (inr (omega arith))),
+      )
+      | inr a ↦
+          let lo : stretch.number + at ≤ k = a.0 in
+          let hi : k < stretch.number + at + 1 = a.1 in
+          let x : k - stretch.number ≡ at = omega arith in
+          inl (
+            rw (eq-eqb s step e, eq-eqb k (stretch.number + at) (omega arith)) refl,
+            run-in stretch step at (at + 1) s k e lo (omega arith)
+                ∙ ap (λ y. Some (OfPoint (kept stretch step y))) x
+                ∙ ap (λ y. Some (OfPoint y)) h
+                ∙ ap (λ y. Some (OfPoint (spot law stretch step y))) (sym x)
+                ∙ sym (rows-at law stretch step k places line (omega arith) (omega arith))
+                ∙ ap (λ t. rows_noted law t k) (sym e),
+          )
+    ]
+  ]
+]

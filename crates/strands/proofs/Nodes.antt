@@ -32,8 +32,8 @@ use Rattle.strands.proofs.Advancing.{between-join, or-assoc, same-marks}
 use Rattle.strands.proofs.Marking.{ArePlaces, IsSplit, same-between}
 use Rattle.strands.proofs.Spoking.{places-then, spoke-begins, spoke-next}
 use Rattle.strands.specs.Hubs.{AreNewSpokes, EachSpoke, IsHub, IsHubAfter, IsHubAt, IsHubEnd, IsHubNode, IsHubStepped, IsLoaded, IsNewHub, IsSameHub, IsSideLoaded, IsSpokeOf, NotesHub, hub_marks, is_passed}
-use Rattle.strands.specs.Marks.{Marks, is_between, marked, or_marked}
-use Rattle.strands.specs.Spokes.{IsBeside, IsNewSpoke, IsSameSpoke, IsSpoke, IsSpokeAfter, IsSpokeAt, IsSpokeLater, NotesSpoke, end_place, is_only, spoke_front, spokes_marks}
+use Rattle.strands.specs.Marks.{Marks, is_between, is_only, marked, or_marked}
+use Rattle.strands.specs.Spokes.{IsBeside, IsNewSpoke, IsSameSpoke, IsSpoke, IsSpokeAfter, IsSpokeAt, IsSpokeLater, NotesSpoke, end_place, spoke_front, spokes_marks}
 use Rattle.strands.specs.Stations.{half}
 use Rattle.strands.specs.declared.hubs.Hub.{Hub}
 use Rattle.strands.specs.declared.spokes.Spoke.{Spoke}

@@ -20,11 +20,12 @@ use Rattle.fronts.specs.Noted.{run_noted}
 use Rattle.fronts.specs.declared.stretches.Stretch.{Stretch}
 use Rattle.fronts.proofs.Lining.{is-now, run-before, run-in, where-is}
 use Rattle.fronts.proofs.Raising.{same-spot}
+use Rattle.strands.proofs.Starting.{holds-nothing}
 use Rattle.strands.proofs.Loading.{with, with-here, with-there}
 use Rattle.strands.proofs.Marking.{ArePlaces, IsSplit, rows-at, same-numbered}
 use Rattle.strands.specs.Sections.{IsNumberedLine}
 use Rattle.strands.specs.Beside.{HasBeside, IsTriangle, taken_front, taken_since}
-use Rattle.strands.specs.Spokes.{IsNewSpoke, IsSameSpoke, IsSpoke, IsSpokeAfter, IsSpokeAt, end_place, inner_low, is_only, nearer_low, open_front, open_since, run_low, spoke_front, spoke_since}
+use Rattle.strands.specs.Spokes.{IsNewSpoke, IsSameSpoke, IsSpoke, IsSpokeAfter, IsSpokeAt, end_place, inner_low, nearer_low, open_front, open_since, run_low, spoke_front, spoke_since}
 use Rattle.strands.specs.declared.spokes.Spoke.{Spoke}
 use Rattle.strands.specs.Stations.{half}
 
@@ -199,36 +200,7 @@ spoke-holds law last n step most low at old mid new since front later point size
     (p ∙ sym (same-spot law old mid (step + 1) (end_place last n) same) ∙ ap (spot law mid (step + 1)) (sym e))
     (run since front near inner h)
 
--- ---- one point alone is noted
-
-pub split-only : (law : Meaning) (stretch : Stretch) (step at s k : ℕ) → ArePlaces → IsNumberedLine law stretch
-    → at < count_of stretch → kept stretch step at ≡ spot law stretch step at
-    → IsSplit law (run_noted stretch step at (at + 1)) (is_only step (stretch.number + at)) s k
-split-only law stretch step at s k places line b h = elim (is-now s step) [
-  | inr e ↦ inr (rw (ne_eqb s step e) refl, run-before stretch step at (at + 1) s k (inl e))
-  | inl e ↦ elim (where-is k (stretch.number + at) (stretch.number + at + 1)) [
-    | inl a ↦ inr (rw (ne_eqb k (stretch.number + at) (λ f. omega arith), and-false) refl, run-before stretch step at (at + 1) s k (inr (inl a)))
-    | inr c ↦ elim c [
-      | inl a ↦ inr (
-        rw (ne_eqb k (stretch.number + at) (λ f. omega arith), and-false) refl,
-        run-before stretch step at (at + 1) s k (inr (inr (omega arith))),
-      )
-      | inr a ↦
-          let lo : stretch.number + at ≤ k = a.0 in
-          let hi : k < stretch.number + at + 1 = a.1 in
-          let x : k - stretch.number ≡ at = omega arith in
-          inl (
-            rw (eq-eqb s step e, eq-eqb k (stretch.number + at) (omega arith)) refl,
-            run-in stretch step at (at + 1) s k e lo (omega arith)
-                ∙ ap (λ y. Some (OfPoint (kept stretch step y))) x
-                ∙ ap (λ y. Some (OfPoint y)) h
-                ∙ ap (λ y. Some (OfPoint (spot law stretch step y))) (sym x)
-                ∙ sym (rows-at law stretch step k places line (omega arith) (omega arith))
-                ∙ ap (λ t. rows_noted law t k) (sym e),
-          )
-    ]
-  ]
-]
+-- ---- the start
 
 -- a spoke holds its end's point of the step that it is computed up to
 pub end-held : (loaded last : Bool) (w s : ℕ) → 1 ≤ w
@@ -268,9 +240,6 @@ puts-start last w count = record {
   beside = λ x b h. let o = off-end last (half w) x h in (refl, omega arith);
 }
 
-pub holds-none : (law : Meaning) (stretch : Stretch) → Holds law (λ x. 1) (λ x. 0) stretch
-holds-none law stretch = record { cell = λ t x b s f g. absurd (omega arith) }
-
 -- what is said of a spoke goes for one of the same places
 pub same-spoke : (law : Meaning) (w : ℕ) (old new : Spoke) → IsSameSpoke old new → IsSpoke law w old → IsSpoke law w new
 unfolding count_of
@@ -304,7 +273,7 @@ new-spoke law w at place end blank stretch point pipe last bare is same e f p pu
     let puts = subst (λ z. Puts 0 z (count_of blank.stretch) (λ x. 1) (λ x. 0) (open_since false blank.last w 0) (open_front false blank.last w 0))
     (sym at-is) (puts-start blank.last w (count_of blank.stretch)) in
     let held = put (λ x. 1) (λ x. 0) (open_since false blank.last w 0) (open_front false blank.last w 0) puts point-is
-    (holds-none law blank.stretch) in
+    (holds-nothing law blank.stretch) in
     record {
       at = record {
         on_pipe = same-spoke law w blank now (record { places = same; last_is = refl }) is;

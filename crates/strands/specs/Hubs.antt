@@ -1,5 +1,5 @@
 -- The strand of a node: the node's state, and a spoke for each pipe end at it.
-use Rattle.std.specs.Prelude.{◌≡◌, ℕ, ◌+◌, ◌-◌, ◌/◌, ◌<◌, ◌≤◌, ◌≢◌, ◌==◌, ◌&&◌, nat_le, nat_lt}
+use Rattle.std.specs.Prelude.{◌≡◌, ℕ, ◌+◌, ◌-◌, ◌^◌, ◌<◌, ◌≤◌, ◌≢◌, ◌==◌, ◌&&◌, nat_le, nat_lt}
 use Rattle.std.specs.Prelude.{Bool, true, false, List, length, slice_index_or}
 use Rattle.case_model.specs.Meaning.{Meaning}
 use Rattle.case_model.specs.Mesh.{IsNumbered, end_index, end_node, ends_of, reaches}
@@ -10,9 +10,9 @@ use Rattle.envelope.specs.Cells.{is_within}
 use Rattle.envelope.specs.Folds.{IsSameFold, Stands, spans_of}
 use Rattle.envelope.specs.declared.folds.Fold.{Fold}
 use Rattle.fronts.specs.Stretches.{count_of}
-use Rattle.strands.specs.Marks.{Marks, marked, or_marked}
-use Rattle.strands.specs.Spokes.{IsNewSpoke, IsSameSpoke, IsSpokeAfter, IsSpokeAt, NotesSpoke, ends_marks, is_only}
-use Rattle.strands.specs.Spokes.{spoke_inner, spoke_outer, spokes_marks}
+use Rattle.strands.specs.Marks.{Marks, is_only, marked, or_marked}
+use Rattle.strands.specs.Spokes.{IsNewSpoke, IsSameSpoke, IsSpokeAfter, IsSpokeAt, NotesSpoke}
+use Rattle.strands.specs.Spokes.{ends_marks, spoke_inner, spoke_outer, spokes_marks}
 use Rattle.strands.specs.Words.{HasPoints}
 use Rattle.strands.specs.Stations.{half}
 use Rattle.strands.specs.declared.hubs.Hub.{Hub}
@@ -86,6 +86,16 @@ pub record IsSameHub (old new : Hub) : Type 0 where
   pub each : length new.spokes.items ≡ length old.spokes.items
   pub spokes : (i : ℕ) (d : Spoke) → i < length old.spokes.items
       → IsSameSpoke (slice_index_or old.spokes.items i d) (slice_index_or new.spokes.items i d)
+
+-- the spokes of a hub, in the order of its node's ends: one at each side
+abbrev pub spokes_of : Hub → List Spoke
+spokes_of hub = hub.spokes.items
+
+-- each spoke has a place beside its end, and place numbers below 2^32
+abbrev pub AreSized : List Spoke → Type 0
+AreSized spokes =
+    EachSpoke (λ i spoke. (2 ≤ count_of spoke.stretch)
+    × (spoke.stretch.number + count_of spoke.stretch < 2 ^ 32)) spokes
 
 -- the spokes are those for windows of w steps
 abbrev pub IsForWindow : ℕ → Hub → Type 0

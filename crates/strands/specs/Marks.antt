@@ -1,6 +1,7 @@
 -- Points of the rows of a law that are marked by step and place number, and those between two
 -- fronts of a stretch.
-use Rattle.std.specs.Prelude.{ℕ, ◌+◌, ◌-◌, ◌||◌, ◌&&◌, nat_le, nat_lt, Bool, if◌then◌else◌, None}
+use Rattle.std.specs.Prelude.{ℕ, ◌+◌, ◌-◌, ◌==◌, ◌||◌, ◌&&◌, nat_le, nat_lt, Bool, None}
+use Rattle.std.specs.Prelude.{if◌then◌else◌}
 use Rattle.case_model.specs.Meaning.{Meaning}
 use Rattle.envelope.specs.Notings.{Noted}
 use Rattle.envelope.specs.Rows.{rows_noted}
@@ -17,6 +18,10 @@ marked law marks s k = if marks s k then rows_noted law s k else None
 
 abbrev pub or_marked : Marks → Marks → Marks
 or_marked one other s k = one s k || other s k
+
+-- one step and place number alone
+abbrev pub is_only : ℕ → ℕ → Marks
+is_only step place s k = (s == step) && (k == place)
 
 -- the steps behind one front of a stretch up to another, place by place
 abbrev pub is_between : Stretch → (ℕ → ℕ) → (ℕ → ℕ) → Marks

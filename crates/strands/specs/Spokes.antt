@@ -15,7 +15,7 @@ use Rattle.envelope.specs.declared.folds.Fold.{Fold}
 use Rattle.fronts.specs.Bands.{from_place}
 use Rattle.fronts.specs.Fronts.{Holds, fan, fan_since}
 use Rattle.fronts.specs.Stretches.{AreSamePlaces, count_of}
-use Rattle.strands.specs.Marks.{Marks, is_between, marked, or_marked}
+use Rattle.strands.specs.Marks.{Marks, is_between, is_only, marked, or_marked}
 use Rattle.strands.specs.Sections.{IsNumberedLine}
 use Rattle.strands.specs.Stations.{half}
 use Rattle.strands.specs.declared.spokes.Spoke.{Spoke}
@@ -82,10 +82,6 @@ run_low false n most = 0
 abbrev pub inner_low : Bool → ℕ → ℕ → ℕ
 inner_low true n most = n - most
 inner_low false n most = 1
-
--- one step and place number alone
-abbrev pub is_only : ℕ → ℕ → Marks
-is_only step place s k = (s == step) && (k == place)
 
 -- the first of a spoke's places without the farthest from the end
 abbrev pub nearer_low : Bool → ℕ

@@ -10,12 +10,13 @@ ghost use Rattle.envelope.specs.Cells.{is_within};
 ghost use Rattle.envelope.specs.Folds.{IsSameFold, Stands, spans_of};
 ghost use Rattle.fronts.specs.Fronts.{spot};
 ghost use Rattle.fronts.specs.Stretches.{count_of};
-ghost use Rattle.strands.specs.Hubs.{AreNewSpokes, EachSpoke, HasInner, HasOuter, IsForWindow, IsHubAfter};
-ghost use Rattle.strands.specs.Hubs.{IsHubAt, IsHubNode, IsHubStepped, IsLoaded, IsNewHub};
-ghost use Rattle.strands.specs.Hubs.{IsSameHub, IsSideLoaded, NotesHub, hub_marks, start_marks};
-ghost use Rattle.strands.specs.Marks.{Marks, marked, or_marked};
+ghost use Rattle.strands.specs.Hubs.{AreNewSpokes, AreSized, EachSpoke, HasInner, HasOuter};
+ghost use Rattle.strands.specs.Hubs.{IsForWindow, IsHubAfter, IsHubAt, IsHubNode, IsHubStepped};
+ghost use Rattle.strands.specs.Hubs.{IsLoaded, IsNewHub, IsSideLoaded, NotesHub, spokes_of};
+ghost use Rattle.strands.specs.Hubs.{start_marks};
+ghost use Rattle.strands.specs.Marks.{Marks, is_only, marked, or_marked};
 ghost use Rattle.strands.specs.Spokes.{IsBeside, IsNewSpoke, IsSpokeAfter, IsSpokeAt, IsSpokeLater};
-ghost use Rattle.strands.specs.Spokes.{NotesSpoke, end_place, ends_marks, is_only, spokes_marks};
+ghost use Rattle.strands.specs.Spokes.{NotesSpoke, end_place, ends_marks, spokes_marks};
 ghost use Rattle.strands.specs.Stations.{half};
 ghost use Rattle.strands.specs.declared.spokes.Spoke.{Spoke as SpokeSeen};
 
@@ -62,8 +63,7 @@ impl Hub {
     /// Notes the node's state and the points of its ends at step 0.
     pub fn note_start(&self, fold: &mut Fold)
         requires noted { NotesHub self.now fold.old }
-        requires sized { EachSpoke (λ i spoke. (2 ≤ count_of spoke.stretch)
-            × (spoke.stretch.number + count_of spoke.stretch < 2 ^ 32)) self.now.spokes.items }
+        requires sized { AreSized (spokes_of self.now) }
         ensures same { IsSameFold fold.old fold.new }
         ensures stands { (law : Meaning) (w : ℕ) (marks : Marks) → IsHubAt law w 0 self.now →
             Stands fold.old (marked law marks) →
@@ -76,7 +76,7 @@ impl Hub {
     /// Takes the block of the section at one side in, over the window of so many steps after
     /// `start`. Where it is loaded already, nothing changes.
     pub fn load(&mut self, side: usize, window: usize, start: u64, words: &[u64])
-        requires there { side < length self.old.spokes.items }
+        requires there { side < length (spokes_of self.old) }
         requires each { length words.now ≡ 4 * window }
         requires size { IsForWindow window self.old }
         requires room { start + window < 2 ^ 64 }
@@ -114,7 +114,7 @@ impl Hub {
     /// Writes the block of one side for the section there, over the window of so many steps after
     /// `start`, which was computed.
     pub fn write(&self, side: usize, window: usize, start: u64, out: &mut [u64])
-        requires there { side < length self.now.spokes.items }
+        requires there { side < length (spokes_of self.now) }
         requires each { length out.old ≡ 4 * window }
         requires size { IsForWindow window self.now }
         requires room { start + window < 2 ^ 64 }
@@ -214,8 +214,7 @@ fn make_spokes<L: Law>(
 
 // Notes the points of the ends at step 0.
 fn note_ends(fold: &mut Fold, spokes: &[Spoke])
-    requires sized { EachSpoke (λ i spoke. (2 ≤ count_of spoke.stretch)
-        × (spoke.stretch.number + count_of spoke.stretch < 2 ^ 32)) spokes.now }
+    requires sized { AreSized spokes.now }
     requires noted { EachSpoke (λ i spoke. NotesSpoke spoke fold.old) spokes.now }
     ensures same { IsSameFold fold.old fold.new }
     ensures stands { (law : Meaning) (w : ℕ) (marks : Marks) →

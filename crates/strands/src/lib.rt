@@ -16,5 +16,4 @@ pub use blocks::{load_side, write_side};
 pub use hubs::Hub;
 pub use seams::Seam;
 pub use sections::{advance, advance_region, advance_start};
-pub use spokes::Spoke;
 pub use stations::{advance_run, advance_seam};

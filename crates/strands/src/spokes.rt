@@ -11,9 +11,9 @@ ghost use Rattle.fronts.specs.Fronts.{Holds, Raises, spot};
 ghost use Rattle.fronts.specs.Stretches.{count_of};
 ghost use Rattle.strands.specs.Beside.{inner_side, outer_side};
 ghost use Rattle.strands.specs.Spokes.{IsNewSpoke, IsSameSpoke, IsSpoke, IsSpokeAfter, IsSpokeAt};
-ghost use Rattle.strands.specs.Spokes.{NotesSpoke, end_place, inner_low as low_inside, is_only};
+ghost use Rattle.strands.specs.Spokes.{NotesSpoke, end_place, inner_low as low_inside};
 ghost use Rattle.strands.specs.Spokes.{IsBeside, IsSpokeStepped, run_low, spoke_inner, spoke_outer};
-ghost use Rattle.strands.specs.Marks.{Marks, marked, or_marked};
+ghost use Rattle.strands.specs.Marks.{Marks, is_only, marked, or_marked};
 ghost use Rattle.strands.specs.Sections.{IsAdvanced, IsNumberedLine};
 ghost use Rattle.strands.specs.Stations.{half};
 ghost use Rattle.strands.specs.Words.{HasPoints};
@@ -35,7 +35,7 @@ pub(crate) struct WindowStep {
 /// A stretch of a pipe from its end at a node inward. Of each window it takes the block of the
 /// section beside the node in, is computed with the node, and hands its own block on.
 #[derive(Drop, Debug)]
-pub struct Spoke {
+pub(crate) struct Spoke {
     pub(crate) stretch: Stretch,
     pub(crate) last: bool,
     pub(crate) loaded: bool,
@@ -44,7 +44,7 @@ pub struct Spoke {
 impl Spoke {
     /// The spoke of a pipe end for windows of so many steps, with the end's point of step 0. The
     /// error is want of memory.
-    pub fn make<L: Law>(
+    pub(crate) fn make<L: Law>(
         alloc: Global,
         law: &L,
         mesh: &Mesh,
@@ -67,7 +67,7 @@ impl Spoke {
     }
 
     /// Notes the end's point of step 0.
-    pub fn note_start(&self, fold: &mut Fold)
+    pub(crate) fn note_start(&self, fold: &mut Fold)
         requires some { 2 ≤ count_of self.now.stretch }
         requires few { self.now.stretch.number + count_of self.now.stretch < 2 ^ 32 }
         requires noted { NotesSpoke self.now fold.old }
@@ -85,7 +85,7 @@ impl Spoke {
 
     /// Takes the block of the section in, over the window of so many steps after `start`. Where it
     /// is loaded already, nothing changes.
-    pub fn load(&mut self, window: usize, start: u64, words: &[u64])
+    pub(crate) fn load(&mut self, window: usize, start: u64, words: &[u64])
         requires each { length words.now ≡ 4 * window }
         requires some { 1 ≤ window }
         requires size { count_of self.old.stretch ≡ half window + 1 }
@@ -105,7 +105,7 @@ impl Spoke {
 
     /// Writes the block of the node for the section on this pipe, over the window of so many steps
     /// after `start`.
-    pub fn write(&self, window: usize, start: u64, out: &mut [u64])
+    pub(crate) fn write(&self, window: usize, start: u64, out: &mut [u64])
         requires each { length out.old ≡ 4 * window }
         requires some { 1 ≤ window }
         requires size { count_of self.now.stretch ≡ half window + 1 }

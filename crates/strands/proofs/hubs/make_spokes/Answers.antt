@@ -21,6 +21,7 @@ loop-end-preserved g c =
     c.as_slice-ends.ensures
     ∙ get_or_read c.as_slice.result.now c.args.node c.index-as_slice-node.result (omega (arith, ap length c.as_slice.ensures)) c.index-as_slice-node.is []
     ∙ ap (λ (es : List (List End)). get_or es c.args.node []) c.as_slice.ensures in
-    subst (AreNewSpokes law w (ends_of c.args.mesh.now c.args.node) (i + 1)) {x = c.loop-end.spokes.items ++ x ∷ []} (sym c.in_ok-push.ensures.items)
-    (new-more law w i (ends_of c.args.mesh.now c.args.node) c.loop-end.spokes.items x c.loop-end.invariant
-    (λ d. subst (λ y. IsNewSpoke law w y x) {x = get_or ends i none} (get_or_default ends i none d c.loop-end-test.true ∙ ap (λ (es : List End). get_or es i d) e) c.in_ok-make.ensures))
+    let next = new-more law w i (ends_of c.args.mesh.now c.args.node) c.loop-end.spokes.items x c.loop-end.invariant
+    (λ d. subst (λ y. IsNewSpoke law w y x) {x = get_or ends i none}
+    (get_or_default ends i none d c.loop-end-test.true ∙ ap (λ (es : List End). get_or es i d) e) c.in_ok-make.ensures) in
+    rw (c.in_ok-push.ensures.items) next

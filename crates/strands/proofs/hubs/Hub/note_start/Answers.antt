@@ -1,9 +1,9 @@
 use Rattle.std.proofs.Common.{◌≡◌, List, subst, sym}
 use Rattle.envelope.specs.Folds.{Stands}
 use Rattle.strands.proofs.Advancing.{or-assoc, same-marks}
-use Rattle.strands.specs.Marks.{marked, or_marked}
+use Rattle.strands.specs.Marks.{is_only, marked, or_marked}
 use Rattle.strands.specs.Hubs.{EachSpoke, start_marks}
-use Rattle.strands.specs.Spokes.{IsSpokeAt, NotesSpoke, ends_marks, is_only}
+use Rattle.strands.specs.Spokes.{IsSpokeAt, NotesSpoke, ends_marks}
 use Rattle.strands.specs.declared.spokes.Spoke.{Spoke}
 use Rattle.strands.proofs.hubs.Hub.note_start.Goals as goal
 

@@ -3,8 +3,7 @@ use Rattle.envelope.specs.Notings.{only, union}
 use Rattle.envelope.specs.Notings.Noting.{OfNode}
 use Rattle.strands.proofs.Marking.{IsSplit, agree-marked, union-marked}
 use Rattle.strands.proofs.Nodes.{split-node}
-use Rattle.strands.specs.Marks.{marked, or_marked}
-use Rattle.strands.specs.Spokes.{is_only}
+use Rattle.strands.specs.Marks.{is_only, marked, or_marked}
 use Rattle.strands.proofs.hubs.Hub.note_state.Goals as goal
 
 pub returns-clause-stands : goal.returns-clause-stands

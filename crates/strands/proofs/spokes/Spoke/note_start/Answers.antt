@@ -3,10 +3,10 @@ use Rattle.envelope.specs.Notings.{union}
 use Rattle.envelope.specs.Folds.{Stands}
 use Rattle.fronts.specs.Noted.{run_noted}
 use Rattle.fronts.specs.Stretches.{count_of}
-use Rattle.strands.proofs.Marking.{IsSplit, agree-marked, union-marked}
-use Rattle.strands.proofs.Spoking.{end-kept, end-inside, split-only}
-use Rattle.strands.specs.Marks.{marked, or_marked}
-use Rattle.strands.specs.Spokes.{end_place, is_only}
+use Rattle.strands.proofs.Marking.{IsSplit, agree-marked, split-only, union-marked}
+use Rattle.strands.proofs.Spoking.{end-kept, end-inside}
+use Rattle.strands.specs.Marks.{is_only, marked, or_marked}
+use Rattle.strands.specs.Spokes.{end_place}
 use Rattle.strands.specs.Stations.{half}
 use Rattle.strands.proofs.spokes.Spoke.note_start.Goals as goal
 
