@@ -1,5 +1,6 @@
 -- The spokes of a node: the fronts around its end, and the steps of its triangle.
-use Rattle.std.proofs.Common.{◌≡◌, ℕ, ◌+◌, ◌-◌, ◌/◌, ◌<◌, ◌≤◌, ◌⊎◌, inl, inr, ◌∙◌, ap, sym, subst, refl, arith, Bool, true, false, List, min}
+use Rattle.std.proofs.Common.{◌≡◌, ℕ, ◌+◌, ◌-◌, ◌/◌, ◌<◌, ◌≤◌, ◌⊎◌, inl, inr, ◌∙◌, ap, sym, subst}
+use Rattle.std.proofs.Common.{refl, arith, Bool, true, false, List, min}
 use Rattle.std.specs.Prelude.{◌≢◌, not}
 use Rattle.std.specs.Prelude.{Some}
 use Rattle.std.proofs.Math.Bool.{and-false}
@@ -25,15 +26,19 @@ use Rattle.strands.proofs.Loading.{with, with-here, with-there}
 use Rattle.strands.proofs.Marking.{ArePlaces, IsSplit, rows-at, same-numbered}
 use Rattle.strands.specs.Sections.{IsNumberedLine}
 use Rattle.strands.specs.Beside.{HasBeside, IsTriangle, taken_front, taken_since}
-use Rattle.strands.specs.Spokes.{IsNewSpoke, IsSameSpoke, IsSpoke, IsSpokeAfter, IsSpokeAt, end_place, inner_low, nearer_low, open_front, open_since, run_low, spoke_front, spoke_since}
+use Rattle.strands.specs.Spokes.{IsNewSpoke, IsSameSpoke, IsSpoke, IsSpokeAfter, IsSpokeAt}
+use Rattle.strands.specs.Spokes.{end_place, inner_low, nearer_low, open_front, open_since, run_low}
+use Rattle.strands.specs.Spokes.{spoke_front, spoke_since}
 use Rattle.strands.specs.declared.spokes.Spoke.{Spoke}
 use Rattle.strands.specs.Stations.{half}
 
 -- ---- a step of the end and of the places beside it
 
 pub raises-inner : (last : Bool) (n step most : ℕ) (since front later : ℕ → ℕ) → most < n
-    → Raises step (λ x. x) (run_low last n most) (run_low last n most + most + 1) (n + 1) since front later
-    → Raises step (λ x. x) (inner_low last n most) (inner_low last n most + most) (n + 1) since front
+    → Raises step (λ x. x) (run_low last n most) (run_low last n most + most + 1) (n + 1) since
+    front later
+    → Raises step (λ x. x) (inner_low last n most) (inner_low last n most + most) (n + 1) since
+    front
     (with (end_place last n) step later)
 raises-inner true n step most since front later a ra = record {
   own = λ x b i j. ra.own x b i (omega arith);
@@ -44,32 +49,43 @@ raises-inner true n step most since front later a ra = record {
     | inl c ↦ with-there n step later x (λ e. omega arith) ∙ ra.others x b (inl c)
     | inr c ↦
         let e : x ≡ n = omega arith in
-        ap (with n step later) e ∙ with-here n step later ∙ sym (ra.own x b (omega arith) (omega arith)).1
+        ap (with n step later) e ∙ with-here n step later
+        ∙ sym (ra.own x b (omega arith) (omega arith)).1
   ];
 }
 raises-inner false n step most since front later a ra = record {
   own = λ x b i j. ra.own x b (omega arith) (omega arith);
   left = λ x b i j. ra.left x b (omega arith) (omega arith);
   right = λ x b i j. ra.right x b (omega arith) (omega arith);
-  raised = λ x b i j. with-there 0 step later x (λ e. omega arith) ∙ ra.raised x b (omega arith) (omega arith);
+  raised = λ x b i j. with-there 0 step later x (λ e. omega arith) ∙ ra.raised x b (omega arith)
+      (omega arith);
   others = λ x b o. elim o [
     | inl c ↦
         let e : x ≡ 0 = omega arith in
-        ap (with 0 step later) e ∙ with-here 0 step later ∙ sym (ra.own x b (omega arith) (omega arith)).1
+        ap (with 0 step later) e ∙ with-here 0 step later
+        ∙ sym (ra.own x b (omega arith) (omega arith)).1
     | inr c ↦ with-there 0 step later x (λ e. omega arith) ∙ ra.others x b (inr (omega arith))
   ];
 }
 
 -- the end is among the places of the step
 pub end-raised : (last : Bool) (n step most : ℕ) (since front later : ℕ → ℕ) → most < n
-    → Raises step (λ x. x) (run_low last n most) (run_low last n most + most + 1) (n + 1) since front later
+    → Raises step (λ x. x) (run_low last n most) (run_low last n most + most + 1) (n + 1) since
+    front later
     → (since (end_place last n) ≤ step) × (later (end_place last n) ≡ step + 1)
-end-raised true n step most since front later a ra =
-    ((ra.own n (omega arith) (omega arith) (omega arith)).0, ra.raised n (omega arith) (omega arith) (omega arith))
-end-raised false n step most since front later a ra =
-    ((ra.own 0 (omega arith) (omega arith) (omega arith)).0, ra.raised 0 (omega arith) (omega arith) (omega arith))
+end-raised true n step most since front later a ra = (
+  (ra.own n (omega arith) (omega arith) (omega arith)).0,
+  ra.raised n (omega arith) (omega arith)
+      (omega arith),
+)
+end-raised false n step most since front later a ra = (
+  (ra.own 0 (omega arith) (omega arith) (omega arith)).0,
+  ra.raised 0 (omega arith) (omega arith)
+      (omega arith),
+)
 
-pub puts-end : (place step count : ℕ) (since later : ℕ → ℕ) → since place ≤ step → later place ≡ step + 1
+pub puts-end : (place step count : ℕ) (since later : ℕ → ℕ) → since place ≤ step
+    → later place ≡ step + 1
     → Puts (step + 1) place count since (with place step later) since later
 puts-end place step count since later a e = record {
   here = e;
@@ -77,7 +93,8 @@ puts-end place step count since later a e = record {
   beside = λ x b h. (sym (with-there place step later x h), omega arith);
 }
 
-pub low-is : (last : Bool) (n most : ℕ) → most < n → min (inner_low last n most) (end_place last n) ≡ run_low last n most
+pub low-is : (last : Bool) (n most : ℕ) → most < n → min (inner_low last n most) (end_place last n)
+    ≡ run_low last n most
 low-is true n most a = omega arith
 low-is false n most a = omega arith
 
@@ -86,12 +103,14 @@ end-inside true n = omega arith
 end-inside false n = omega arith
 
 pub low-inside : (last : Bool) (n most : ℕ) → most < n
-    → (0 < inner_low last n most) × ((inner_low last n most + most < n + 1) × (run_low last n most + most + 1 ≤ n + 1))
+    → (0 < inner_low last n most) × ((inner_low last n most + most < n + 1) ×
+    (run_low last n most + most + 1 ≤ n + 1))
 low-inside true n most a = (omega arith, (omega arith, omega arith))
 low-inside false n most a = (omega arith, (omega arith, omega arith))
 
 pub raises-spoke : (last : Bool) (w s k most : ℕ) → k < w → most ≡ min k (w - 1 - k)
-    → Raises (s + k) (λ x. x) (run_low last (half w) most) (run_low last (half w) most + most + 1) (half w + 1)
+    → Raises (s + k) (λ x. x) (run_low last (half w) most) (run_low last (half w) most + most + 1)
+    (half w + 1)
     (spoke_since last w s) (spoke_front last w s k) (spoke_front last w s (k + 1))
 raises-spoke true w s k most a e = record {
   own = λ x h i j. (omega arith, omega arith);
@@ -123,7 +142,8 @@ holds-same law since front from later stretch e h = record {
 
 -- ---- the block that is taken in
 
-pub has-beside : (last : Bool) (n count : ℕ) → count ≡ n + 1 → HasBeside (not last) (end_place last n) n count
+pub has-beside : (last : Bool) (n count : ℕ) → count ≡ n + 1 → HasBeside (not last)
+    (end_place last n) n count
 has-beside true n count e = (omega arith, omega arith)
 has-beside false n count e = omega arith
 
@@ -147,23 +167,30 @@ taken-open false w s x h = elim (below 0 x) [
     below : (x y : ℕ) → (x < y) ⊎ (y ≤ x)
     below x y = grind arith
 
-pub taken-holds : (law : Meaning) (last : Bool) (w s : ℕ) (stretch : Stretch) → count_of stretch ≡ half w + 1
-    → Holds law (taken_since (not last) (end_place last (half w)) s (half w) (open_since false last w s))
-    (taken_front (not last) (end_place last (half w)) w s (half w) (open_front false last w s)) stretch
+pub taken-holds : (law : Meaning) (last : Bool) (w s : ℕ) (stretch : Stretch)
+    → count_of stretch ≡ half w + 1
+    → Holds law (taken_since (not last) (end_place last (half w)) s (half w)
+    (open_since false last w s))
+    (taken_front (not last) (end_place last (half w)) w s (half w) (open_front false last w s))
+    stretch
     → Holds law (open_since true last w s) (open_front true last w s) stretch
 taken-holds law last w s stretch size h =
-    holds-same law (taken_since (not last) (end_place last (half w)) s (half w) (open_since false last w s))
+    holds-same law (taken_since (not last) (end_place last (half w)) s (half w)
+    (open_since false last w s))
     (taken_front (not last) (end_place last (half w)) w s (half w) (open_front false last w s))
-    (open_since true last w s) (open_front true last w s) stretch (λ x b. taken-open last w s x (omega arith)) h
+    (open_since true last w s) (open_front true last w s) stretch
+    (λ x b. taken-open last w s x (omega arith)) h
 
 -- ---- the block that is handed on
 
-pub has-triangle : (last : Bool) (n w count : ℕ) → count ≡ n + 1 → n ≡ half w → HasBeside (not last) (end_place last n) ((w - 1) / 2) count
+pub has-triangle : (last : Bool) (n w count : ℕ) → count ≡ n + 1 → n ≡ half w → HasBeside (not last)
+    (end_place last n) ((w - 1) / 2) count
 has-triangle true n w count e f = (omega arith, omega arith)
 has-triangle false n w count e f = omega arith
 
 pub spoke-triangle : (last : Bool) (w s : ℕ) → 1 ≤ w
-    → IsTriangle (not last) (end_place last (half w)) w s (spoke_since last w s) (spoke_front last w s w)
+    → IsTriangle (not last) (end_place last (half w)) w s (spoke_since last w s)
+    (spoke_front last w s w)
 spoke-triangle true w s a = record { front_is = λ d b. omega arith; since_is = λ d b. omega arith }
 spoke-triangle false w s a = record { front_is = λ d b. omega arith; since_is = λ d b. omega arith }
 
@@ -178,39 +205,51 @@ places-then a b c h k = record {
 }
 
 -- the places beside the end are raised, then the end's point is put
-pub spoke-holds : (law : Meaning) (last : Bool) (n step most low at : ℕ) (old mid new : Stretch) (since front later : ℕ → ℕ) (point : Point)
-    → count_of old ≡ n + 1 → most < n → low ≡ inner_low last n most → at ≡ end_place last n → AreSamePlaces old mid
-    → Raises step (λ x. x) (run_low last n most) (run_low last n most + most + 1) (count_of old) since front later
+pub spoke-holds : (law : Meaning) (last : Bool) (n step most low at : ℕ) (old mid new : Stretch)
+    (since front later : ℕ → ℕ) (point : Point)
+    → count_of old ≡ n + 1 → most < n → low ≡ inner_low last n most → at ≡ end_place last n
+    → AreSamePlaces old mid
+    → Raises step (λ x. x) (run_low last n most) (run_low last n most + most + 1) (count_of old)
+    since front later
     → point ≡ spot law old (step + 1) (end_place last n)
-    → ((since front later : ℕ → ℕ) → Raises step (λ x. x) low (low + most) (count_of old) since front later
+    → ((since front later : ℕ → ℕ) → Raises step (λ x. x) low (low + most) (count_of old) since
+    front later
     → Holds law since front old → Holds law since later mid)
-    → ((since front sooner later : ℕ → ℕ) → Puts (step + 1) at (count_of mid) since front sooner later
+    → ((since front sooner later : ℕ → ℕ) → Puts (step + 1) at (count_of mid) since front sooner
+    later
     → point ≡ spot law mid (step + 1) at → Holds law since front mid → Holds law sooner later new)
     → Holds law since front old → Holds law since later new
-spoke-holds law last n step most low at old mid new since front later point size a l e same ra p run put h =
+spoke-holds law last n step most low at old mid new since front later point size a l e same ra p run
+    put h =
     let near = with (end_place last n) step later in
-    let whole = subst (λ m. Raises step (λ x. x) (run_low last n most) (run_low last n most + most + 1) m since front later) size ra in
-    let inner = subst (λ z. Raises step (λ x. x) z (z + most) (count_of old) since front near) (sym l)
-    (subst (λ m. Raises step (λ x. x) (inner_low last n most) (inner_low last n most + most) m since front near) (sym size)
+    let whole = subst (λ m. Raises step (λ x. x) (run_low last n most)
+    (run_low last n most + most + 1) m since front later) size ra in
+    let inner = subst (λ z. Raises step (λ x. x) z (z + most) (count_of old) since front near)
+    (sym l)
+    (subst (λ m. Raises step (λ x. x) (inner_low last n most) (inner_low last n most + most) m since
+    front near) (sym size)
     (raises-inner last n step most since front later a whole)) in
     let end = end-raised last n step most since front later a whole in
     let puts = subst (λ z. Puts (step + 1) z (count_of mid) since near since later) (sym e)
     (puts-end (end_place last n) step (count_of mid) since later end.0 end.1) in
     put since near since later puts
-    (p ∙ sym (same-spot law old mid (step + 1) (end_place last n) same) ∙ ap (spot law mid (step + 1)) (sym e))
+    (p ∙ sym (same-spot law old mid (step + 1) (end_place last n) same)
+    ∙ ap (spot law mid (step + 1)) (sym e))
     (run since front near inner h)
 
 -- ---- the start
 
 -- a spoke holds its end's point of the step that it is computed up to
 pub end-held : (loaded last : Bool) (w s : ℕ) → 1 ≤ w
-    → (open_since loaded last w s (end_place last (half w)) ≤ s) × (open_front loaded last w s (end_place last (half w)) ≡ s)
+    → (open_since loaded last w s (end_place last (half w)) ≤ s) ×
+    (open_front loaded last w s (end_place last (half w)) ≡ s)
 end-held true true w s a = (omega arith, omega arith)
 end-held true false w s a = (omega arith, omega arith)
 end-held false true w s a = (omega arith, refl)
 end-held false false w s a = (omega arith, refl)
 
-pub end-kept : (law : Meaning) (w s at : ℕ) (spoke : Spoke) → IsSpokeAt law w s spoke → at ≡ end_place spoke.last (half w)
+pub end-kept : (law : Meaning) (w s at : ℕ) (spoke : Spoke) → IsSpokeAt law w s spoke
+    → at ≡ end_place spoke.last (half w)
     → kept spoke.stretch s at ≡ spot law spoke.stretch s at
 end-kept law w s at spoke h e =
     let held = end-held spoke.loaded spoke.last w s h.on_pipe.some in
@@ -233,7 +272,8 @@ off-end last n x h = elim (below x (end_place last n)) [
     below x y = grind arith
 
 pub puts-start : (last : Bool) (w count : ℕ)
-    → Puts 0 (end_place last (half w)) count (λ x. 1) (λ x. 0) (open_since false last w 0) (open_front false last w 0)
+    → Puts 0 (end_place last (half w)) count (λ x. 1) (λ x. 0) (open_since false last w 0)
+    (open_front false last w 0)
 puts-start last w count = record {
   here = refl;
   kept = λ t e l. absurd (omega arith);
@@ -241,7 +281,8 @@ puts-start last w count = record {
 }
 
 -- what is said of a spoke goes for one of the same places
-pub same-spoke : (law : Meaning) (w : ℕ) (old new : Spoke) → IsSameSpoke old new → IsSpoke law w old → IsSpoke law w new
+pub same-spoke : (law : Meaning) (w : ℕ) (old new : Spoke) → IsSameSpoke old new → IsSpoke law w old
+    → IsSpoke law w new
 unfolding count_of
 same-spoke law w old new h is = record {
   some = is.some;
@@ -250,13 +291,18 @@ same-spoke law w old new h is = record {
   end_is = rw (h.places.first_is, h.places.pipe_is, h.last_is) is.end_is;
 }
 
-pub new-spoke : (law : Meaning) (w at place : ℕ) (end : End) (blank : Spoke) (stretch : Stretch) (point : Point)
-    → blank.stretch.pipe ≡ end.pipe → blank.last ≡ end.at_last → blank.loaded ≡ false → IsSpoke law w blank
+pub new-spoke : (law : Meaning) (w at place : ℕ) (end : End) (blank : Spoke) (stretch : Stretch)
+    (point : Point)
+    → blank.stretch.pipe ≡ end.pipe → blank.last ≡ end.at_last → blank.loaded ≡ false
+    → IsSpoke law w blank
     → AreSamePlaces blank.stretch stretch
-    → at ≡ end_place blank.last (count_of blank.stretch - 1) → place ≡ end_place end.at_last (reaches law.mesh end.pipe)
+    → at ≡ end_place blank.last (count_of blank.stretch - 1) → place ≡ end_place end.at_last
+    (reaches law.mesh end.pipe)
     → point ≡ law.start_point end.pipe place
-    → ((since front sooner later : ℕ → ℕ) → Puts 0 at (count_of blank.stretch) since front sooner later
-    → point ≡ spot law blank.stretch 0 at → Holds law since front blank.stretch → Holds law sooner later stretch)
+    → ((since front sooner later : ℕ → ℕ) → Puts 0 at (count_of blank.stretch) since front sooner
+    later
+    → point ≡ spot law blank.stretch 0 at → Holds law since front blank.stretch
+    → Holds law sooner later stretch)
     → IsNewSpoke law w end (record { stretch = stretch; last = blank.last; loaded = blank.loaded })
 new-spoke law w at place end blank stretch point pipe last bare is same e f p put =
     let size : count_of blank.stretch ≡ half w + 1 = is.size in
@@ -268,16 +314,21 @@ new-spoke law w at place end blank stretch point pipe last bare is same e f p pu
     ∙ ap (λ q. end_place blank.last (reaches law.mesh q)) (sym pipe)
     ∙ sym is.end_is ∙ ap (λ z. blank.stretch.first + z) (sym at-is) in
     let point-is : point ≡ spot law blank.stretch 0 at =
-    p ∙ ap (law.start_point end.pipe) where-end ∙ ap (λ q. law.start_point q (blank.stretch.first + at)) (sym pipe)
-    ∙ sym (ap (λ (r : Row). r.point blank.stretch.pipe (blank.stretch.first + at)) (row-start law)) in
-    let puts = subst (λ z. Puts 0 z (count_of blank.stretch) (λ x. 1) (λ x. 0) (open_since false blank.last w 0) (open_front false blank.last w 0))
+    p ∙ ap (law.start_point end.pipe) where-end
+    ∙ ap (λ q. law.start_point q (blank.stretch.first + at)) (sym pipe)
+    ∙ sym (ap (λ (r : Row). r.point blank.stretch.pipe (blank.stretch.first + at)) (row-start law))
+    in
+    let puts = subst (λ z. Puts 0 z (count_of blank.stretch) (λ x. 1) (λ x. 0)
+    (open_since false blank.last w 0) (open_front false blank.last w 0))
     (sym at-is) (puts-start blank.last w (count_of blank.stretch)) in
-    let held = put (λ x. 1) (λ x. 0) (open_since false blank.last w 0) (open_front false blank.last w 0) puts point-is
+    let held = put (λ x. 1) (λ x. 0) (open_since false blank.last w 0)
+    (open_front false blank.last w 0) puts point-is
     (holds-nothing law blank.stretch) in
     record {
       at = record {
         on_pipe = same-spoke law w blank now (record { places = same; last_is = refl }) is;
-        holds = subst (λ b. Holds law (open_since b blank.last w 0) (open_front b blank.last w 0) stretch) (sym bare) held;
+        holds = subst (λ b. Holds law (open_since b blank.last w 0) (open_front b blank.last w 0)
+            stretch) (sym bare) held;
       };
       pipe_is = same.pipe_is ∙ pipe;
       last_is = last;
@@ -286,8 +337,10 @@ new-spoke law w at place end blank stretch point pipe last bare is same e f p pu
 
 -- ---- what the fold has
 
-pub within-spoke : (last : Bool) (n most low number other count : ℕ) (spans : List (ℕ × ℕ)) → count ≡ n + 1 → most < n
-    → low ≡ run_low last n most → other ≡ number → AreInOneSpan spans (number + nearer_low last) (count - 1)
+pub within-spoke : (last : Bool) (n most low number other count : ℕ) (spans : List (ℕ × ℕ))
+    → count ≡ n + 1 → most < n
+    → low ≡ run_low last n most → other ≡ number → AreInOneSpan spans (number + nearer_low last)
+    (count - 1)
     → AreInOneSpan spans (other + low) (low + most + 1 - low)
 within-spoke true n most low number other count spans size a e f (i, h) =
     let lo : _ = h.low in
@@ -300,22 +353,28 @@ within-spoke false n most low number other count spans size a e f (i, h) =
 
 -- ---- from one window to the next
 
-pub spoke-begins : (law : Meaning) (w s : ℕ) (spoke : Spoke) → spoke.loaded ≡ true → IsSpokeAt law w s spoke → IsSpokeAfter law w s 0 spoke
+pub spoke-begins : (law : Meaning) (w s : ℕ) (spoke : Spoke) → spoke.loaded ≡ true
+    → IsSpokeAt law w s spoke → IsSpokeAfter law w s 0 spoke
 spoke-begins law w s spoke e h = record {
   on_pipe = h.on_pipe;
-  holds = subst (λ b. Holds law (open_since b spoke.last w s) (open_front b spoke.last w s) spoke.stretch) e h.holds;
+  holds = subst (λ b. Holds law (open_since b spoke.last w s) (open_front b spoke.last w s)
+      spoke.stretch) e h.holds;
 }
 
 -- the end alone is held of the window's last step
-next-held : (last : Bool) (w s t x : ℕ) → x < half w + 1 → 1 ≤ w → open_since false last w (s + w) x ≤ t → t ≤ s + w
-    → (spoke_since last w s x ≤ t) × ((t ≤ spoke_front last w s w x) × (spoke_front last w s w x ≤ t + 1))
+next-held : (last : Bool) (w s t x : ℕ) → x < half w + 1 → 1 ≤ w → open_since false last w
+    (s + w) x ≤ t → t ≤ s + w
+    → (spoke_since last w s x ≤ t) ×
+    ((t ≤ spoke_front last w s w x) × (spoke_front last w s w x ≤ t + 1))
 next-held true w s t x b a c d = (omega arith, (omega arith, omega arith))
 next-held false w s t x b a c d = (omega arith, (omega arith, omega arith))
 
-pub spoke-next : (law : Meaning) (w s : ℕ) (spoke : Spoke) → spoke.loaded ≡ false → IsSpokeAfter law w s w spoke → IsSpokeAt law w (s + w) spoke
+pub spoke-next : (law : Meaning) (w s : ℕ) (spoke : Spoke) → spoke.loaded ≡ false
+    → IsSpokeAfter law w s w spoke → IsSpokeAt law w (s + w) spoke
 spoke-next law w s spoke e h = record {
   on_pipe = h.on_pipe;
-  holds = subst (λ b. Holds law (open_since b spoke.last w (s + w)) (open_front b spoke.last w (s + w)) spoke.stretch) (sym e)
+  holds = subst (λ b. Holds law (open_since b spoke.last w (s + w))
+      (open_front b spoke.last w (s + w)) spoke.stretch) (sym e)
       (record {
         cell = λ t x b f g i.
             let size : count_of spoke.stretch ≡ half w + 1 = h.on_pipe.size in

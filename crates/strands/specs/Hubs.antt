@@ -105,6 +105,7 @@ IsForWindow w hub =
 -- the block of side number `side` is loaded, and nothing else that hubs are made of has changed
 pub record IsSideLoaded (side : ℕ) (old new : Hub) : Type 0 where
   pub same : IsSameHub old new
+  pub state_is : new.state ≡ old.state
   pub here : (d : Spoke) → (slice_index_or new.spokes.items side d).loaded ≡ true
   pub others : (i : ℕ) (d : Spoke) → i ≢ side
       → (slice_index_or new.spokes.items i d).loaded ≡ (slice_index_or old.spokes.items i d).loaded

@@ -11,7 +11,9 @@ loop-i-preserved c =
     let inv = c.loop-i.invariant in
     record {
       each = length-set c.loop-i.near i c.beside.result ∙ inv.each;
-      beside = beside-more c.args.step i spokes c.loop-i.near c.beside.result (omega (arith, inv.each, c.loop-i-test.true)) inv.beside
+      beside = beside-more c.args.step i spokes c.loop-i.near c.beside.result
+          (omega (arith, inv.each, c.loop-i-test.true)) inv.beside
           (λ e. subst (λ z. IsBeside c.args.step z c.beside.result)
-          (get_or_read spokes i c.index-spokes-i.result c.loop-i-test.true c.index-spokes-i.is e) c.beside.ensures.point);
+          (get_or_read spokes i c.index-spokes-i.result c.loop-i-test.true c.index-spokes-i.is e)
+          c.beside.ensures.point);
     }

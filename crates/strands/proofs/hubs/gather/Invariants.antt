@@ -7,5 +7,6 @@ use Rattle.strands.proofs.hubs.gather.Given as goal
 abbrev pub invariant-loop-i : goal.invariant-loop-i
 invariant-loop-i l = record {
   each : length l.near ≡ length l.spokes;
-  beside : (i : ℕ) (d : Point) (e : Spoke) → i < l.i → IsBeside l.step (get_or l.spokes i e) (get_or l.near i d);
+  beside : (i : ℕ) (d : Point) (e : Spoke) → i < l.i → IsBeside l.step (get_or l.spokes i e)
+      (get_or l.near i d);
 }

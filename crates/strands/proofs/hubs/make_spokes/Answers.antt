@@ -1,4 +1,5 @@
-use Rattle.std.proofs.Common.{◌≡◌, ◌+◌, ◌<◌, ◌∙◌, List, [], ◌++◌, ◌∷◌, length, get_or, ap, subst, sym, arith, false}
+use Rattle.std.proofs.Common.{◌≡◌, ◌+◌, ◌<◌, ◌∙◌, List, [], ◌++◌, ◌∷◌, length, get_or, ap, subst}
+use Rattle.std.proofs.Common.{sym, arith, false}
 use Rattle.std.proofs.lemmas.List.{get_or_default, get_or_read}
 use Rattle.case_model.specs.declared.meshes.End.{End}
 use Rattle.case_model.specs.Mesh.{ends_of}
@@ -19,9 +20,12 @@ loop-end-preserved g c =
     let there : c.args.node < length c.args.mesh.now.ends = c.requires.node.there in
     let e : ends ≡ ends_of c.args.mesh.now c.args.node =
     c.as_slice-ends.ensures
-    ∙ get_or_read c.as_slice.result.now c.args.node c.index-as_slice-node.result (omega (arith, ap length c.as_slice.ensures)) c.index-as_slice-node.is []
+    ∙ get_or_read c.as_slice.result.now c.args.node c.index-as_slice-node.result
+    (omega (arith, ap length c.as_slice.ensures)) c.index-as_slice-node.is []
     ∙ ap (λ (es : List (List End)). get_or es c.args.node []) c.as_slice.ensures in
-    let next = new-more law w i (ends_of c.args.mesh.now c.args.node) c.loop-end.spokes.items x c.loop-end.invariant
+    let next = new-more law w i (ends_of c.args.mesh.now c.args.node) c.loop-end.spokes.items x
+    c.loop-end.invariant
     (λ d. subst (λ y. IsNewSpoke law w y x) {x = get_or ends i none}
-    (get_or_default ends i none d c.loop-end-test.true ∙ ap (λ (es : List End). get_or es i d) e) c.in_ok-make.ensures) in
+    (get_or_default ends i none d c.loop-end-test.true ∙ ap (λ (es : List End). get_or es i d) e)
+    c.in_ok-make.ensures) in
     rw (c.in_ok-push.ensures.items) next

@@ -4,4 +4,5 @@ use Rattle.strands.proofs.hubs.make_spokes.Given as goal
 
 abbrev pub invariant-loop-end : goal.invariant-loop-end
 invariant-loop-end g l =
-    AreNewSpokes (g.L.Law.meaning l.law) l.window (ends_of l.fn.mesh l.node) l.end-index l.spokes.items
+    AreNewSpokes (g.L.Law.meaning l.law) l.window (ends_of l.fn.mesh l.node) l.end-index
+    l.spokes.items

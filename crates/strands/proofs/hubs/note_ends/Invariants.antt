@@ -10,5 +10,6 @@ abbrev pub invariant-loop-i : goal.invariant-loop-i
 invariant-loop-i l = record {
   same : IsSameFold l.fn.fold l.fold;
   stands : (law : Meaning) (w : ℕ) (marks : Marks) → EachSpoke (λ i. IsSpokeAt law w 0) l.spokes
-      → Stands l.fn.fold (marked law marks) → Stands l.fold (marked law (or_marked marks (ends_marks w (take l.i l.spokes))));
+      → Stands l.fn.fold (marked law marks)
+      → Stands l.fold (marked law (or_marked marks (ends_marks w (take l.i l.spokes))));
 }

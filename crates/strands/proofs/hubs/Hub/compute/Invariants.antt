@@ -4,6 +4,7 @@ use Rattle.strands.proofs.hubs.Hub.compute.Given as goal
 
 abbrev pub invariant-loop-done : goal.invariant-loop-done
 invariant-loop-done g l = record {
-  stepped : IsHubStepped (g.L.Law.meaning l.law) l.window l.start 0 l.done l.fn.self l.self l.fn.fold l.fold;
+  stepped : IsHubStepped (g.L.Law.meaning l.law) l.window l.start 0 l.done l.fn.self l.self
+      l.fn.fold l.fold;
   bare : 0 < l.done → IsLoaded false l.self;
 }

@@ -10,8 +10,10 @@ returns-clause-loaded c =
     let old = c.args.self.now in
     let side = c.args.side in
     let x = c.index_mut.result.now in
-    side-loaded old _ side c.load.new.self refl refl c.requires.there
-    (λ d. subst (λ z. IsSameSpoke z c.load.new.self) (get_or_read old.spokes.items side x c.requires.there c.index_mut.ensures.value d) c.load.ensures.same)
+    side-loaded old _ side c.load.new.self refl refl refl c.requires.there
+    (λ d. subst (λ z. IsSameSpoke z c.load.new.self)
+    (get_or_read old.spokes.items side x c.requires.there c.index_mut.ensures.value d)
+    c.load.ensures.same)
     c.load.ensures.loaded
 
 pub returns-clause-at : goal.returns-clause-at
@@ -22,7 +24,8 @@ returns-clause-at c = λ law m h words.
     let s = c.args.start in
     let x = c.index_mut.result.now in
     let read = get_or_read old.spokes.items side x c.requires.there c.index_mut.ensures.value in
-    let now = c.load.ensures.at law m (subst (IsSpokeAt law w s) (sym (read x)) (h.spokes side x c.requires.there))
+    let now = c.load.ensures.at law m (subst (IsSpokeAt law w s) (sym (read x))
+    (h.spokes side x c.requires.there))
     (subst (λ z. HasPoints w (spoke_outer law w s z) c.args.words.now) (sym (read x)) (words x)) in
     hub-at-set law w s old _ side c.load.new.self
     (same-hub-set old _ side c.load.new.self refl refl c.requires.there

@@ -9,6 +9,8 @@ returns c = λ law h d.
     let w = c.args.window in
     let s = c.args.start in
     let x = c.index.result.now in
-    let read = get_or_read c.args.self.now.spokes.items c.args.side x c.requires.there c.index.ensures in
+    let read = get_or_read c.args.self.now.spokes.items c.args.side x c.requires.there
+    c.index.ensures in
     subst (λ z. HasPoints w (spoke_inner law w s z) c.write.new.out) (read d)
-    (c.write.ensures law (subst (IsSpokeAfter law w s w) (sym (read x)) (h.spokes c.args.side x c.requires.there)))
+    (c.write.ensures law (subst (IsSpokeAfter law w s w) (sym (read x))
+    (h.spokes c.args.side x c.requires.there)))

@@ -21,9 +21,12 @@ returns-clause-stands c = λ law w marks h st.
     let b : end_place spoke.last (half w) < half w + 1 = end-inside spoke.last (half w) in
     let run = run_noted stretch 0 at (at + 1) in
     let more = is_only 0 (stretch.number + at) in
-    let split : (s k : ℕ) → IsSplit law run more s k = λ s k. split-only law stretch 0 at s k c.numbers_tell_places.ensures.place h.on_pipe.line (omega arith)
+    let split : (s k : ℕ) → IsSplit law run more s k = λ s k. split-only law stretch 0 at s k
+    c.numbers_tell_places.ensures.place h.on_pipe.line (omega arith)
     (end-kept law w 0 at spoke h e) in
-    subst (λ z. Stands c.note.new.fold (marked law (or_marked marks (is_only 0 (stretch.number + z))))) e
-    (c.stands_for_equal_maps.ensures c.note.new.fold (union (marked law marks) run) (marked law (or_marked marks more))
+    subst (λ z. Stands c.note.new.fold
+    (marked law (or_marked marks (is_only 0 (stretch.number + z))))) e
+    (c.stands_for_equal_maps.ensures c.note.new.fold (union (marked law marks) run)
+    (marked law (or_marked marks more))
     (λ s k l i. union-marked law run marks more s k (split s k))
     (c.note.ensures.stands (marked law marks) st (agree-marked law run marks more split)))
