@@ -1,35 +1,33 @@
 -- The strand of a node: its spokes together, its state, and what the fold is told of both.
-use Rattle.std.proofs.Common.{◌≡◌, ℕ, zero, suc, ◌+◌, ◌-◌, ◌*◌, ◌/◌, ◌<◌, ◌≤◌, ◌⊎◌, inl, inr, ◌∙◌}
+use Rattle.std.proofs.Common.{◌≡◌, ℕ, suc, ◌+◌, ◌-◌, ◌<◌, ◌≤◌, ◌⊎◌, inl, inr, ◌∙◌}
 use Rattle.std.proofs.Common.{ap, sym, subst, refl, arith, Bool, true, false, List, [], ◌∷◌, ◌++◌}
-use Rattle.std.proofs.Common.{length, take, set, get_or, Some, None, below_more}
+use Rattle.std.proofs.Common.{length, take, set, get_or, Some}
 use Rattle.std.specs.List.{list_any}
-use Rattle.std.specs.Prelude.{◌≢◌, ◌||◌, ◌&&◌, ◌==◌, nat_le, nat_lt, map}
+use Rattle.std.specs.Prelude.{◌≢◌, ◌||◌, ◌&&◌, ◌==◌}
 use Rattle.std.proofs.Math.Bool.{and-false, or-false}
 use Rattle.std.proofs.lemmas.Bool.{eq-eqb, lt-ltb, le-leb, le-ltb, lt-leb, ne_eqb}
 use Rattle.std.proofs.lemmas.List.{ext_get_or, get_or-append_right, get_or-set_other}
 use Rattle.std.proofs.lemmas.List.{get_or-set_same, get_or_append_left, get_or_default, get_or_read}
-use Rattle.std.proofs.lemmas.List.{length-append, length-set, take_all, take_more}
+use Rattle.std.proofs.lemmas.List.{length-append, length-set, take_more}
 use Rattle.std.proofs.lemmas.List.Folds.{list_any-append}
-use Rattle.case_model.specs.declared.cases.ProbeAt.{ProbeAt}
 use Rattle.case_model.specs.declared.cases.ProbeAt.TheVariants.{OnNode}
 use Rattle.case_model.specs.declared.meshes.End.{End}
 use Rattle.case_model.specs.declared.meshes.Mesh.{Mesh}
 use Rattle.case_model.specs.declared.points.Point.{Point}
 use Rattle.case_model.specs.declared.points.Point.TheVariants.{Bad}
 use Rattle.case_model.specs.declared.states.NodeState.{NodeState}
-use Rattle.case_model.specs.Meaning.{IsMeaning, Meaning}
-use Rattle.case_model.specs.Mesh.{IsNumbered, end_index, end_node, ends_of, next_to, reaches}
-use Rattle.case_model.specs.PlaceNumbers.{number_of, place_at}
+use Rattle.case_model.specs.Meaning.{Meaning}
+use Rattle.case_model.specs.Mesh.{IsNumbered, end_node, ends_of, next_to, reaches}
+use Rattle.case_model.specs.PlaceNumbers.{place_at}
 use Rattle.case_model.specs.Rows.{Row, end_point, near, node_ends, row}
-use Rattle.case_model.proofs.RowLaws.{length-near, near-at, near-good, point-first, point-last}
-use Rattle.case_model.proofs.RowLaws.{row-good, row-start, state-next}
+use Rattle.case_model.proofs.RowLaws.{length-near, near-at, point-first, point-last}
+use Rattle.case_model.proofs.RowLaws.{row-start, state-next}
 use Rattle.envelope.specs.Folds.{IsSameFold, Stands}
-use Rattle.envelope.specs.Notings.{Noting, only}
+use Rattle.envelope.specs.Notings.{only}
 use Rattle.envelope.specs.Notings.Noting.{OfNode}
 use Rattle.envelope.specs.Rows.{noting_at, rows_noted}
 use Rattle.envelope.specs.declared.folds.Fold.{Fold}
-use Rattle.fronts.specs.Bands.{from_place}
-use Rattle.fronts.specs.Fronts.{fan, spot}
+use Rattle.fronts.specs.Fronts.{spot}
 use Rattle.fronts.specs.Stretches.{count_of}
 use Rattle.fronts.specs.declared.stretches.Stretch.{Stretch}
 use Rattle.fronts.proofs.Lining.{is-now}
@@ -40,7 +38,7 @@ use Rattle.strands.specs.Hubs.{AreNewSpokes, EachSpoke, IsHub, IsHubAfter, IsHub
 use Rattle.strands.specs.Hubs.{IsHubNode, IsHubStepped, IsLoaded, IsNewHub, IsSameHub, IsSideLoaded}
 use Rattle.strands.specs.Hubs.{IsSpokeOf, NotesHub, hub_marks, is_passed}
 use Rattle.strands.specs.Marks.{Marks, is_between, is_only, marked, or_marked}
-use Rattle.strands.specs.Spokes.{IsBeside, IsNewSpoke, IsSameSpoke, IsSpoke, IsSpokeAfter}
+use Rattle.strands.specs.Spokes.{IsBeside, IsNewSpoke, IsSameSpoke, IsSpoke}
 use Rattle.strands.specs.Spokes.{IsSpokeAt, IsSpokeLater, NotesSpoke, end_place, spoke_front}
 use Rattle.strands.specs.Spokes.{spokes_marks}
 use Rattle.strands.specs.Stations.{half}

@@ -2,29 +2,22 @@
 use Rattle.std.proofs.Common.{◌≡◌, ℕ, ◌+◌, ◌-◌, ◌/◌, ◌<◌, ◌≤◌, ◌⊎◌, inl, inr, ◌∙◌, ap, sym, subst}
 use Rattle.std.proofs.Common.{refl, arith, Bool, true, false, List, min}
 use Rattle.std.specs.Prelude.{◌≢◌, not}
-use Rattle.std.specs.Prelude.{Some}
-use Rattle.std.proofs.Math.Bool.{and-false}
-use Rattle.std.proofs.lemmas.Bool.{eq-eqb, lt-ltb, le-leb, le-ltb, ne_eqb}
+use Rattle.std.proofs.lemmas.Bool.{lt-ltb, le-leb, le-ltb}
 use Rattle.case_model.specs.declared.points.Point.{Point}
 use Rattle.case_model.specs.Meaning.{Meaning}
 use Rattle.case_model.specs.Mesh.{reaches}
 use Rattle.case_model.specs.Rows.{Row}
 use Rattle.case_model.specs.declared.meshes.End.{End}
 use Rattle.case_model.proofs.RowLaws.{row-start}
-use Rattle.envelope.specs.Notings.Noting.{OfPoint}
-use Rattle.envelope.specs.Rows.{rows_noted}
 use Rattle.envelope.specs.Cells.{AreInOneSpan}
 use Rattle.fronts.specs.Bands.{from_place}
 use Rattle.fronts.specs.Fronts.{Holds, Puts, Raises, spot}
 use Rattle.fronts.specs.Stretches.{AreSamePlaces, count_of, kept}
-use Rattle.fronts.specs.Noted.{run_noted}
 use Rattle.fronts.specs.declared.stretches.Stretch.{Stretch}
-use Rattle.fronts.proofs.Lining.{is-now, run-before, run-in, where-is}
 use Rattle.fronts.proofs.Raising.{same-spot}
 use Rattle.strands.proofs.Starting.{holds-nothing}
 use Rattle.strands.proofs.Loading.{with, with-here, with-there}
-use Rattle.strands.proofs.Marking.{ArePlaces, IsSplit, rows-at, same-numbered}
-use Rattle.strands.specs.Sections.{IsNumberedLine}
+use Rattle.strands.proofs.Marking.{same-numbered}
 use Rattle.strands.specs.Beside.{HasBeside, IsTriangle, taken_front, taken_since}
 use Rattle.strands.specs.Spokes.{IsNewSpoke, IsSameSpoke, IsSpoke, IsSpokeAfter, IsSpokeAt}
 use Rattle.strands.specs.Spokes.{end_place, inner_low, nearer_low, open_front, open_since, run_low}

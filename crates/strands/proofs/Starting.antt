@@ -1,21 +1,15 @@
 -- The start of a seam: its own point alone, kept and noted.
 use Rattle.std.proofs.Common.{◌≡◌, ℕ, ◌+◌, ◌-◌, ◌*◌, ◌<◌, ◌≤◌, ◌⊎◌, inl, inr, ◌∙◌, ap, sym, refl}
-use Rattle.std.proofs.Common.{arith, Bool, true, false, Some}
+use Rattle.std.proofs.Common.{arith, Bool, true, false}
 use Rattle.std.specs.Prelude.{◌^◌, length}
-use Rattle.std.proofs.Math.Bool.{and-false}
-use Rattle.std.proofs.lemmas.Bool.{eq-eqb, le-ltb, lt-ltb, ne_eqb}
+use Rattle.std.proofs.lemmas.Bool.{le-ltb, lt-ltb}
 use Rattle.case_model.specs.Meaning.{Meaning}
 use Rattle.case_model.specs.Mesh.{IsNumbered, base_of, reaches}
 use Rattle.case_model.specs.Rows.{Row}
 use Rattle.case_model.proofs.RowLaws.{row-start}
-use Rattle.envelope.specs.Notings.Noting.{OfPoint}
-use Rattle.envelope.specs.Rows.{rows_noted}
 use Rattle.fronts.specs.Fronts.{Holds, Puts, spot}
-use Rattle.fronts.specs.Noted.{run_noted}
 use Rattle.fronts.specs.Stretches.{IsStretchOf, count_of, kept}
 use Rattle.fronts.specs.declared.stretches.Stretch.{Stretch}
-use Rattle.fronts.proofs.Lining.{is-now, run-before, run-in}
-use Rattle.strands.proofs.Marking.{ArePlaces, IsSplit, numbered-line, rows-at}
 use Rattle.strands.specs.Seams.{is_loaded, open_front, open_since}
 use Rattle.strands.specs.Sections.{IsLine}
 use Rattle.strands.specs.Stations.{half, seam_front, seam_since}

@@ -1,5 +1,5 @@
 -- The strand of a node: the node's state, and a spoke for each pipe end at it.
-use Rattle.std.specs.Prelude.{◌≡◌, ℕ, ◌+◌, ◌-◌, ◌^◌, ◌<◌, ◌≤◌, ◌≢◌, ◌==◌, ◌&&◌, nat_le, nat_lt}
+use Rattle.std.specs.Prelude.{◌≡◌, ℕ, ◌+◌, ◌^◌, ◌<◌, ◌≤◌, ◌≢◌, ◌==◌, ◌&&◌, nat_le, nat_lt}
 use Rattle.std.specs.Prelude.{Bool, true, false, List, length, slice_index_or}
 use Rattle.case_model.specs.Meaning.{Meaning}
 use Rattle.case_model.specs.Mesh.{IsNumbered, end_index, end_node, ends_of, reaches}

@@ -1,5 +1,5 @@
 -- The strand of a seam: what it has taken in of the blocks beside it, and how far it is computed.
-use Rattle.std.specs.Prelude.{◌≡◌, ℕ, ◌+◌, ◌-◌, ◌*◌, ◌/◌, ◌≤◌, ◌==◌, ◌&&◌, ◌||◌, not, nat_lt, Bool}
+use Rattle.std.specs.Prelude.{◌≡◌, ℕ, ◌+◌, ◌-◌, ◌*◌, ◌/◌, ◌≤◌, ◌||◌, not, nat_lt, Bool}
 use Rattle.std.specs.Prelude.{true, false, if◌then◌else◌}
 use Rattle.case_model.specs.Meaning.{Meaning}
 use Rattle.fronts.specs.Fronts.{Holds}

@@ -1,7 +1,7 @@
 -- The spokes of a node: for each pipe end at it a stretch of the places of that pipe from the end
 -- inward.
 use Rattle.std.specs.List.{list_any}
-use Rattle.std.specs.Prelude.{◌≡◌, ℕ, ◌+◌, ◌-◌, ◌<◌, ◌≤◌, ◌==◌, ◌&&◌, Bool, true, false, List, min}
+use Rattle.std.specs.Prelude.{◌≡◌, ℕ, ◌+◌, ◌-◌, ◌<◌, ◌≤◌, Bool, true, false, List, min}
 use Rattle.std.specs.Prelude.{not}
 use Rattle.case_model.specs.Meaning.{Meaning}
 use Rattle.case_model.specs.Mesh.{next_to, reaches}

@@ -1,4 +1,4 @@
-use Rattle.std.proofs.Common.{◌≡◌, ◌∙◌, get_or, subst, arith}
+use Rattle.std.proofs.Common.{◌∙◌, subst, arith}
 use Rattle.std.proofs.lemmas.List.{get_or_read, length-set}
 use Rattle.strands.proofs.Nodes.{beside-more}
 use Rattle.strands.specs.Spokes.{IsBeside}

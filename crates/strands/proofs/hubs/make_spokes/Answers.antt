@@ -1,12 +1,10 @@
-use Rattle.std.proofs.Common.{◌≡◌, ◌+◌, ◌<◌, ◌∙◌, List, [], ◌++◌, ◌∷◌, length, get_or, ap, subst}
-use Rattle.std.proofs.Common.{sym, arith, false}
+use Rattle.std.proofs.Common.{◌≡◌, ◌<◌, ◌∙◌, List, [], length, get_or, ap, subst}
+use Rattle.std.proofs.Common.{arith, false}
 use Rattle.std.proofs.lemmas.List.{get_or_default, get_or_read}
 use Rattle.case_model.specs.declared.meshes.End.{End}
 use Rattle.case_model.specs.Mesh.{ends_of}
 use Rattle.strands.proofs.Nodes.{new-more}
-use Rattle.strands.specs.Hubs.{AreNewSpokes}
 use Rattle.strands.specs.Spokes.{IsNewSpoke}
-use Rattle.strands.specs.declared.spokes.Spoke.{Spoke}
 use Rattle.strands.proofs.hubs.make_spokes.Goals as goal
 
 pub loop-end-preserved : goal.loop-end-preserved

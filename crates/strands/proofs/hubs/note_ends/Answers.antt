@@ -1,9 +1,9 @@
-use Rattle.std.proofs.Common.{◌≡◌, ℕ, ◌+◌, ◌<◌, ◌∙◌, List, length, take, get_or, ap, refl, subst}
+use Rattle.std.proofs.Common.{◌≡◌, ◌+◌, List, take, refl, subst}
 use Rattle.std.proofs.Common.{sym, arith}
 use Rattle.std.proofs.lemmas.List.{get_or_read, take_all}
 use Rattle.envelope.specs.Folds.{Stands}
 use Rattle.strands.proofs.Nodes.{fold-then, notes-spoke, stands-more, stands-none}
-use Rattle.strands.specs.Marks.{Marks, is_only, marked, or_marked}
+use Rattle.strands.specs.Marks.{is_only, marked, or_marked}
 use Rattle.strands.specs.Spokes.{IsSpokeAt, NotesSpoke, end_place, ends_marks}
 use Rattle.strands.specs.Stations.{half}
 use Rattle.strands.specs.declared.spokes.Spoke.{Spoke}

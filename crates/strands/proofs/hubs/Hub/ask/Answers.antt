@@ -1,8 +1,8 @@
-use Rattle.std.proofs.Common.{◌≡◌, ℕ, ◌+◌, ◌<◌, ◌∙◌, List, length, get_or, ap, subst, sym}
+use Rattle.std.proofs.Common.{ℕ, ◌+◌, ◌<◌, ◌∙◌, List, length, get_or, ap, subst, sym}
 use Rattle.std.specs.List.{All}
 use Rattle.case_model.specs.declared.points.Point.{Point}
 use Rattle.case_model.specs.Range.{IsPoint, IsState}
-use Rattle.case_model.specs.Rows.{near, node_ends, row}
+use Rattle.case_model.specs.Rows.{row}
 use Rattle.case_model.proofs.RowLaws.{near-good, node_ends-good, row-good}
 use Rattle.strands.proofs.Nodes.{ends-made, near-is, state-made}
 use Rattle.strands.specs.Spokes.{IsBeside}

@@ -1,7 +1,7 @@
-use Rattle.std.proofs.Common.{◌≡◌, ◌+◌, arith, subst, false}
+use Rattle.std.proofs.Common.{◌≡◌, ◌+◌, arith, subst}
 use Rattle.strands.proofs.Nodes.{hub-begins, hub-next, hub-stepped-more, hub-stepped-none}
 use Rattle.strands.proofs.Nodes.{notes-hub}
-use Rattle.strands.specs.Hubs.{IsHubAfter, IsHubStepped, IsLoaded}
+use Rattle.strands.specs.Hubs.{IsHubAfter, IsHubStepped}
 use Rattle.strands.proofs.hubs.Hub.compute.Goals as goal
 
 pub loop-done-init : goal.loop-done-init

@@ -1,4 +1,4 @@
-use Rattle.std.proofs.Common.{◌≡◌, ◌∙◌, get_or, refl, subst, sym}
+use Rattle.std.proofs.Common.{refl, subst, sym}
 use Rattle.std.proofs.lemmas.List.{get_or_read}
 use Rattle.strands.proofs.Nodes.{hub-at-set, same-hub-set, side-loaded}
 use Rattle.strands.specs.Spokes.{IsSameSpoke, IsSpokeAt, spoke_outer}

@@ -1,4 +1,4 @@
-use Rattle.std.proofs.Common.{◌≡◌, ap, length, refl, subst}
+use Rattle.std.proofs.Common.{length, refl, subst}
 use Rattle.case_model.specs.Mesh.{IsNumbered, ends_of}
 use Rattle.case_model.specs.declared.meshes.Mesh.{Mesh}
 use Rattle.strands.proofs.Nodes.{new-hub}

@@ -1,4 +1,4 @@
-use Rattle.std.proofs.Common.{◌≡◌, List, subst, sym}
+use Rattle.std.proofs.Common.{List, subst, sym}
 use Rattle.envelope.specs.Folds.{Stands}
 use Rattle.strands.proofs.Advancing.{or-assoc, same-marks}
 use Rattle.strands.specs.Marks.{is_only, marked, or_marked}

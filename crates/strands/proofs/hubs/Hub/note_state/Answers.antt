@@ -1,4 +1,4 @@
-use Rattle.std.proofs.Common.{◌≡◌, ℕ}
+use Rattle.std.proofs.Common.{ℕ}
 use Rattle.envelope.specs.Notings.{only, union}
 use Rattle.envelope.specs.Notings.Noting.{OfNode}
 use Rattle.strands.proofs.Marking.{IsSplit, agree-marked, union-marked}

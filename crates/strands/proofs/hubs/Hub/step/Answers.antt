@@ -1,4 +1,4 @@
-use Rattle.std.proofs.Common.{◌≡◌, ◌+◌, ◌<◌, ◌∙◌, length, subst, sym, refl, arith}
+use Rattle.std.proofs.Common.{◌+◌, ◌<◌, subst, sym, refl}
 use Rattle.strands.proofs.Nodes.{end-is-given, hub-stepped-one}
 use Rattle.strands.specs.declared.hubs.Hub.{Hub}
 use Rattle.strands.proofs.hubs.Hub.step.Goals as goal

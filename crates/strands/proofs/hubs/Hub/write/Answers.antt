@@ -1,4 +1,4 @@
-use Rattle.std.proofs.Common.{◌≡◌, subst, sym}
+use Rattle.std.proofs.Common.{subst, sym}
 use Rattle.std.proofs.lemmas.List.{get_or_read}
 use Rattle.strands.specs.Spokes.{IsSpokeAfter, spoke_inner}
 use Rattle.strands.specs.Words.{HasPoints}
