@@ -75,14 +75,14 @@ part-inside law layout net x c y back blocks words course room there side link i
     let width = 4 * layout.window in
     let z = side_of layout law.mesh x c in
     let r : back ≡ back_of layout law.mesh x c =
-    link.side ∙ course.planned.back_is x c there side in
+        link.side ∙ course.planned.back_is x c there side in
     let less : back < sides_of layout law.mesh z =
-    subst (λ k. k < sides_of layout law.mesh z) (sym r) (both.index x c there side) in
+        subst (λ k. k < sides_of layout law.mesh z) (sym r) (both.index x c there side) in
     let m : width * (back + 1) ≤ width * sides_of layout law.mesh z =
-    mul-le-mul_left width (omega arith) in
+        mul-le-mul_left width (omega arith) in
     let n : length words ≡ width * sides_of layout law.mesh z =
-    ap length (linked-words law layout net x c y back blocks words course room there side link is)
-    ∙ room.words z (both.inside x c there side) in
+        ap length (linked-words law layout net x c y back blocks words course room there side link is)
+        ∙ room.words z (both.inside x c there side) in
     omega arith
 
 -- and that part is what was handed to it
@@ -182,14 +182,14 @@ wanted law layout t c frontier blocks both right has computed most blocks_are si
     let x = frontier.number in
     let y = side_of layout law.mesh x c in
     let needed : needs_of (is_section layout x) (t / 2) ≡ Some b =
-    subst (λ k. needs_of (is_section layout x) k ≡ Some b) computed need in
+        subst (λ k. needs_of (is_section layout x) k ≡ Some b) computed need in
     let there : y < length layout.shapes = both.inside x c right.there side in
     let off : has_turn layout t y ≡ false =
-    other-turn layout t x y (both.kinds x c right.there side) has in
+        other-turn layout t x y (both.kinds x c right.there side) has in
     let block : IsBlock law layout y b (slice_index_or blocks y []) =
-    blocks_are.block y b there
-    (other-count layout t x y off ∙ needed-is (is_section layout x) t b has needed)
-    (needed-below (is_section layout x) t b layout.windows has needed most) in
+        blocks_are.block y b there
+        (other-count layout t x y off ∙ needed-is (is_section layout x) t b has needed)
+        (needed-below (is_section layout x) t b layout.windows has needed most) in
     record {
       right = right;
       side = side;
