@@ -1,4 +1,6 @@
+mod ByKind
 mod Handing
+mod Keeping
 mod Parts
 mod Sizing
 mod Stepping

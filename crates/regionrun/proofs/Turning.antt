@@ -108,7 +108,7 @@ needs-section (suc m) b need = let e : m ≡ b = cc in omega arith
 needs-station : (m b : ℕ) → needs_of false m ≡ Some b → m ≡ b
 needs-station m b need = cc
 
-pub even : (t : ℕ) → is_even t ≡ true → t % 2 ≡ 0
+even : (t : ℕ) → is_even t ≡ true → t % 2 ≡ 0
 even t e = eqb-true (t % 2) 0 e
 
 flipped : (b : Bool) → not b ≡ true → b ≡ false
@@ -162,7 +162,7 @@ other-turn : (layout : Layout) (t x y : ℕ) → is_section layout y ≡ not (is
 other-turn layout t x y kinds has =
     turned (is_section layout x) (is_section layout y) (is_even t) kinds has
 
-other-count : (layout : Layout) (t n y : ℕ) → has_turn layout t y ≡ false
+pub other-count : (layout : Layout) (t n y : ℕ) → has_turn layout t y ≡ false
     → count_at layout t n y ≡ (t + 1) / 2
 unfolding count_at
 other-count layout t n y not_now = rw not_now refl

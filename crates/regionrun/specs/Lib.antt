@@ -1,3 +1,4 @@
+pub mod Bodies
 pub mod Engine
 pub mod Handed
 pub mod Lawful

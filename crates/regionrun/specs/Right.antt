@@ -1,23 +1,28 @@
 -- When a strand is right: what it keeps are the points of the rows of the law, and its fold was
 -- told all that its regions own.
-use Rattle.std.specs.Prelude.{◌≡◌, ℕ, zero, suc, ◌+◌, ◌-◌, ◌*◌, ◌/◌, ◌<◌, ◌≤◌, ◌==◌, ◌||◌, Bool, true}
+use Rattle.std.specs.Prelude.{◌≡◌, ℕ, ◌+◌, ◌-◌, ◌*◌, ◌/◌, ◌<◌, ◌≤◌, Bool, true}
 use Rattle.std.specs.Prelude.{false, List, [], ◌∷◌, length, map, if◌then◌else◌, Some}
 use Rattle.case_model.specs.declared.meshes.End.{End}
 use Rattle.case_model.specs.declared.meshes.Mesh.{Mesh}
 use Rattle.case_model.specs.Meaning.{Meaning}
 use Rattle.case_model.specs.Mesh.{base_of, ends_of, reaches}
 use Rattle.envelope.specs.Folds.{IsSameFold, Stands, spans_of, steps_of}
+use Rattle.fronts.specs.Stretches.{IsStretchOf}
+use Rattle.fronts.specs.declared.stretches.Stretch.{Stretch}
 use Rattle.regions.specs.declared.shapes.Layout.{Layout}
 use Rattle.regions.specs.declared.shapes.Shape.{Shape}
 use Rattle.regions.specs.declared.shapes.Shape.TheVariants.{OfNode, OfSeam, OfSection}
 use Rattle.regions.specs.LaidOut.{IsLaidOut}
 use Rattle.regions.specs.Needs.{needs_of}
 use Rattle.regions.specs.Sides.{back_of, is_section, shape_at, side_of, sides_of}
+use Rattle.regionrun.specs.Bodies.{IsBodyAt, has_block}
 use Rattle.regionrun.specs.declared.bodies.Body.{Body}
+use Rattle.regionrun.specs.declared.bodies.Body.TheVariants.{OfSeam as SeamBody, OfSection as SectionBody}
 use Rattle.regionrun.specs.declared.frontiers.Frontier.{Frontier}
 use Rattle.regionrun.specs.Handed.{IsBlockFor}
 use Rattle.regionrun.specs.Owned.{owned}
 use Rattle.schedule.specs.Nets.{regions_of}
+use Rattle.strands.specs.Stations.{half}
 use Rattle.strands.specs.Marks.{marked}
 
 -- how many regions strand x has
@@ -38,10 +43,31 @@ strand_spans mesh w (OfSeam pipe place left right) =
 strand_spans mesh w (OfSection pipe place count left right) =
     (base_of mesh pipe + place + 1, count - 1) ∷ []
 
+-- the stretch of a section of this shape
+abbrev pub IsSectionStretch : Mesh → Shape → Stretch → Type 0
+IsSectionStretch mesh (OfNode node) stretch = ⊥
+IsSectionStretch mesh (OfSeam pipe place left right) stretch = ⊥
+IsSectionStretch mesh (OfSection pipe place count left right) stretch =
+    IsStretchOf pipe place (base_of mesh pipe + place) (count + 1) stretch
+
+-- the stretch of a seam of this shape
+abbrev pub IsSeamStretch : Mesh → ℕ → Shape → Stretch → Type 0
+IsSeamStretch mesh w (OfNode node) stretch = ⊥
+IsSeamStretch mesh w (OfSeam pipe place left right) stretch =
+    IsStretchOf pipe (place - half w) (base_of mesh pipe + place - half w) (2 * half w + 1) stretch
+IsSeamStretch mesh w (OfSection pipe place count left right) stretch = ⊥
+
+-- the body has the places of a strand of this shape
+abbrev pub IsBodyOf : Mesh → ℕ → Shape → Body → Type 0
+IsBodyOf mesh w shape (SectionBody section) = IsSectionStretch mesh shape section.stretch
+IsBodyOf mesh w shape (SeamBody seam) = IsSeamStretch mesh w shape seam.stretch
+
 -- of so many regions of strand x the body has the points that its next region and its blocks are
 -- made of
-unfoldable pub Keeps : Meaning → Layout → ℕ → Shape → Body → Type 0
-Keeps law layout c shape body = body.count ≡ c
+pub record Keeps (law : Meaning) (layout : Layout) (c : ℕ) (shape : Shape) (body : Body)
+    : Type 0 where
+  pub places : IsBodyOf law.mesh layout.window shape body
+  pub points : IsBodyAt law layout.window body c
 
 -- a strand of which so many regions are computed
 pub record IsRightAt (law : Meaning) (layout : Layout) (c : ℕ) (frontier : Frontier) : Type 0 where
@@ -83,7 +109,7 @@ pub record IsWantedSome (law : Meaning) (frontier : Frontier) (c : ℕ) (words :
 
 -- whether the block of side c is loaded
 unfoldable pub has_loaded : Frontier → ℕ → Bool
-has_loaded frontier c = false
+has_loaded frontier c = has_block frontier.body c
 
 -- all blocks that the next region needs are loaded
 abbrev pub IsFed : Layout → Frontier → Type 0

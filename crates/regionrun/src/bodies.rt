@@ -1,7 +1,147 @@
-//! What a strand keeps of its places, by its kind.
+//! What a strand keeps of its places, by its kind: how it takes blocks in, is computed, and hands
+//! its own blocks on.
+ghost use Rattle.std.specs.Prelude.{◌≡◌, ℕ, ◌+◌, ◌*◌, ◌^◌, ◌<◌, ◌≤◌, length};
+ghost use Rattle.case_model.specs.Meaning.{IsMeaning, Meaning};
+ghost use Rattle.envelope.specs.Folds.{IsSameFold, Stands};
+ghost use Rattle.regionrun.specs.Bodies.{FitsWindow, HasIncoming, HasLoaded, HasOutgoing};
+ghost use Rattle.regionrun.specs.Bodies.{IsBareBody, IsBodyAt, IsComputed, IsFedBody, IsNoting};
+ghost use Rattle.regionrun.specs.Bodies.{IsOpen, IsSameBody, body_marks, is_section_body};
+ghost use Rattle.regionrun.specs.Bodies.{IsSectionAfter, section_marks, side_count, window_start};
+ghost use Rattle.fronts.specs.Stretches.{AreSamePlaces, count_of};
+ghost use Rattle.strands.specs.Sections.{NotesInside};
+ghost use Rattle.strands.specs.Tents.{IsFed, IsSectionAt, IsUnfed};
+ghost use Rattle.strands.specs.Marks.{Marks, marked, or_marked};
+
+use case_model::Law;
+use envelope::Fold;
+use strands::{Seam, Section};
 
 /// The places of a section, a seam or a node.
 #[derive(Drop, Debug)]
-pub(crate) struct Body {
-    pub(crate) count: usize,
+pub(crate) enum Body {
+    OfSection(Section),
+    OfSeam(Seam),
+}
+
+impl Body {
+    /// Whether these are the places of a section.
+    pub(crate) fn is_section(&self) -> bool
+        ensures { result ≡ is_section_body self.now }
+    {
+        matches!(self, Body::OfSection(_))
+    }
+
+    // The step after which the window begins that a region's blocks lie in.
+    fn start(&self, window: usize, region: u64) -> u64
+        requires few_steps { window ≤ 256 }
+        requires few { region ≤ 100_000_001 }
+        ensures is { result ≡ window_start self.now window region }
+        ensures low { result < 2 ^ 40 }
+    {
+        if self.is_section() {
+            steps_of(window, region.saturating_sub(1))
+        } else {
+            steps_of(window, region)
+        }
+    }
+
+    /// Takes the block of one side in that a region needs.
+    pub(crate) fn load(&mut self, side: usize, window: usize, region: u64, words: &[u64])
+        requires few_steps { window ≤ 256 }
+        requires few { region ≤ 100_000_001 }
+        requires side { side < side_count self.old }
+        requires each { length words.now ≡ 4 * window }
+        requires fits { FitsWindow window self.old }
+        ensures loaded { HasLoaded side self.old self.new }
+        ensures open { (law : Meaning) → IsMeaning law → IsOpen law window region self.old →
+            HasIncoming law window region side self.old words.now →
+            IsOpen law window region self.new }
+    {
+        let start = self.start(window, region);
+        match self {
+            Body::OfSection(section) => section.load(side == 0, window, start, words),
+            Body::OfSeam(seam) => seam.load(side == 1, window, start, words),
+        }
+    }
+
+    /// Computes a region, and notes it.
+    pub(crate) fn advance<L: Law>(&mut self, law: &L, window: usize, region: u64, fold: &mut Fold)
+        requires some { 1 ≤ window }
+        requires few_steps { window ≤ 256 }
+        requires few { region ≤ 100_000_001 }
+        requires at { IsBodyAt (L.meaning law.now) window self.old region }
+        requires fits { FitsWindow window self.old }
+        requires fed { IsFedBody self.old region }
+        requires noted { IsNoting window fold.old self.old }
+        ensures computed { IsComputed (L.meaning law.now) window region self.new }
+        ensures same { IsSameBody self.old self.new }
+        ensures bare { IsBareBody self.new }
+        ensures same_fold { IsSameFold fold.old fold.new }
+        ensures stands { (marks : Marks) → Stands fold.old (marked (L.meaning law.now) marks) →
+            Stands fold.new (marked (L.meaning law.now) (or_marked marks
+            (body_marks window self.old region))) }
+    {
+        let start = self.start(window, region);
+        match self {
+            Body::OfSection(section) => advance_section(law, section, window, region, fold),
+            Body::OfSeam(seam) => seam.compute(law, window, start, fold),
+        }
+    }
+
+    /// Writes a region's block for one side.
+    pub(crate) fn write(&self, side: usize, window: usize, region: u64, out: &mut [u64])
+        requires few_steps { window ≤ 256 }
+        requires few { region ≤ 100_000_001 }
+        requires side { side < side_count self.now }
+        requires each { length out.old ≡ 4 * window }
+        requires fits { FitsWindow window self.now }
+        ensures { (law : Meaning) → IsComputed law window region self.now →
+            HasOutgoing law window region side self.now out.new }
+    {
+        let start = steps_of(window, region);
+        match self {
+            Body::OfSection(section) => section.write(side == 0, window, start, out),
+            Body::OfSeam(seam) => seam.write(side == 1, window, start, out),
+        }
+    }
+}
+
+// How many steps so many windows have.
+fn steps_of(window: usize, windows: u64) -> u64
+    requires few_steps { window ≤ 256 }
+    requires few { windows ≤ 100_000_001 }
+    ensures is { result ≡ windows * window }
+    ensures low { result < 2 ^ 40 }
+{
+    windows * window as u64
+}
+
+// Computes a region of a section, and notes it.
+fn advance_section<L: Law>(
+    law: &L,
+    section: &mut Section,
+    window: usize,
+    region: u64,
+    fold: &mut Fold,
+)
+    requires some { 1 ≤ window }
+    requires few_steps { window ≤ 256 }
+    requires few { region ≤ 100_000_001 }
+    requires long { window + 1 ≤ count_of section.old.stretch }
+    requires at { IsSectionAfter (L.meaning law.now) window section.old region }
+    requires fed { 1 ≤ region → IsFed section.old }
+    requires noted { NotesInside section.old.stretch fold.old }
+    ensures unfed { IsUnfed section.new }
+    ensures at { IsSectionAt (L.meaning law.now) window (region * window) section.new }
+    ensures same { AreSamePlaces section.old.stretch section.new.stretch }
+    ensures same_fold { IsSameFold fold.old fold.new }
+    ensures stands { (marks : Marks) → Stands fold.old (marked (L.meaning law.now) marks) →
+        Stands fold.new (marked (L.meaning law.now) (or_marked marks
+        (section_marks window section.old.stretch region))) }
+{
+    if region == 0 {
+        section.compute_first(law, fold);
+    } else {
+        section.compute_next(law, window, steps_of(window, region - 1), fold);
+    }
 }

@@ -8,6 +8,7 @@ mod gates;
 mod gathering;
 mod lawful;
 mod one_strand;
+mod ranges;
 mod serial;
 mod sizes;
 mod strand_folds;

@@ -2,12 +2,12 @@
 ghost use Rattle.std.specs.Prelude.{◌≡◌, ℕ, ◌+◌, ◌*◌, ◌/◌, ◌<◌, ◌≤◌, ◌==◌, length, IfOk, true};
 ghost use Rattle.case_model.specs.Meaning.{Meaning};
 ghost use Rattle.regionrun.specs.Engine.{AreAt, AreAtTurn, AreSameFolds, HaveBlocks, HaveRoom};
-ghost use Rattle.regionrun.specs.Engine.{IsCourse, handed_words};
-ghost use Rattle.regionrun.specs.Engine.{count_at, has_turn, none};
+ghost use Rattle.regionrun.specs.Engine.{IsCourse, handed_words, has_turn as has_turn_of};
+ghost use Rattle.regionrun.specs.Engine.{count_at, none};
 ghost use Rattle.regionrun.specs.Handed.{part};
 ghost use Rattle.regionrun.specs.Right.{IsFed, IsRight, IsSameStrand, region_count};
 ghost use Rattle.regions.specs.LaidOut.{IsLaidOut};
-ghost use Rattle.regions.specs.Sides.{is_section_shape, sides_of};
+ghost use Rattle.regions.specs.Sides.{sides_of};
 ghost use Rattle.schedule.specs.Plans.{net_of};
 
 use crate::Gate;
@@ -56,10 +56,30 @@ pub fn run_serial<L: Law, G: Gate>(
         plan: &plan,
         gate,
     };
-    for turn in 0..2 * layout.windows + 1 {
-        run_turn(&course, turn, &mut strands, &mut blocks);
-    }
+    run_turns(&course, &mut strands, &mut blocks);
     Ok(strands)
+}
+
+// All turns, one after another. Takes no memory.
+fn run_turns<L: Law, G: Gate>(
+    course: &Course<L, G>,
+    strands: &mut [Strand<G::Stub>],
+    blocks: &mut [List<u64>],
+)
+    requires course { IsCourse (L.meaning course.now.law.now) course.now.layout.now
+        (net_of course.now.plan.now) }
+    requires few { course.now.layout.now.windows ≤ 100_000_000 }
+    requires strands { AreAt G.Stub.strand_of G.Stub.entered_of (L.meaning course.now.law.now)
+        course.now.layout.now none strands.old }
+    requires room { HaveRoom course.now.layout.now (L.meaning course.now.law.now).mesh
+        (length course.now.layout.now.shapes) blocks.old }
+    ensures done { AreAt G.Stub.strand_of G.Stub.entered_of (L.meaning course.now.law.now)
+        course.now.layout.now (region_count course.now.layout.now) strands.new }
+    ensures folds { AreSameFolds strands.old strands.new }
+{
+    for turn in 0..2 * course.layout.windows + 1 {
+        run_turn(course, turn, strands, blocks);
+    }
 }
 
 // Room for the blocks of all strands.
@@ -94,18 +114,40 @@ fn run_turn<L: Law, G: Gate>(
         course.now.layout.now (turn + 1) 0 strands.new blocks.new }
     ensures folds { AreSameFolds strands.old strands.new }
 {
-    let sections = turn % 2 == 0;
-    for (x, shape) in course.layout.shapes.as_slice().iter().enumerate() {
-        if is_section(shape) == sections {
-            advance(course, turn, x, strands, blocks);
-        }
+    for x in 0..strands.len() {
+        take_turn(course, turn, x, strands, blocks);
     }
 }
 
-fn is_section(shape: &Shape) -> bool
-    ensures { result ≡ is_section_shape shape.now }
+// The turn of one strand, where it has one.
+fn take_turn<L: Law, G: Gate>(
+    course: &Course<L, G>,
+    turn: u64,
+    x: usize,
+    strands: &mut [Strand<G::Stub>],
+    blocks: &mut [List<u64>],
+)
+    requires course { IsCourse (L.meaning course.now.law.now) course.now.layout.now
+        (net_of course.now.plan.now) }
+    requires turn { turn < 2 * course.now.layout.now.windows + 1 }
+    requires there { x < length course.now.layout.now.shapes }
+    requires at { AreAtTurn G.Stub.strand_of G.Stub.entered_of (L.meaning course.now.law.now)
+        course.now.layout.now turn x strands.old blocks.old }
+    ensures at { AreAtTurn G.Stub.strand_of G.Stub.entered_of (L.meaning course.now.law.now)
+        course.now.layout.now turn (x + 1) strands.new blocks.new }
+    ensures folds { AreSameFolds strands.old strands.new }
 {
-    matches!(shape, Shape::OfSection { .. })
+    if has_turn(course.layout, turn, x) {
+        advance(course, turn, x, strands, blocks);
+    }
+}
+
+// Whether a strand has a region in a turn.
+fn has_turn(layout: &Layout, turn: u64, x: usize) -> bool
+    requires { x < length layout.now.shapes }
+    ensures { result ≡ has_turn_of layout.now turn x }
+{
+    matches!(layout.shapes.as_slice()[x], Shape::OfSection { .. }) == (turn % 2 == 0)
 }
 
 // The next region of a strand: it is entered, fed with the blocks of the neighbours and computed.
@@ -120,7 +162,7 @@ fn advance<L: Law, G: Gate>(
         (net_of course.now.plan.now) }
     requires turn { turn < 2 * course.now.layout.now.windows + 1 }
     requires there { x < length course.now.layout.now.shapes }
-    requires has { has_turn course.now.layout.now turn x ≡ true }
+    requires has { has_turn_of course.now.layout.now turn x ≡ true }
     requires at { AreAtTurn G.Stub.strand_of G.Stub.entered_of (L.meaning course.now.law.now)
         course.now.layout.now turn x strands.old blocks.old }
     ensures at { AreAtTurn G.Stub.strand_of G.Stub.entered_of (L.meaning course.now.law.now)
@@ -145,7 +187,7 @@ fn feed<L: Law, G: Gate>(
     requires course { IsCourse (L.meaning course.now.law.now) course.now.layout.now
         (net_of course.now.plan.now) }
     requires turn { turn < 2 * course.now.layout.now.windows + 1 }
-    requires has { has_turn course.now.layout.now turn frontier.old.number ≡ true }
+    requires has { has_turn_of course.now.layout.now turn frontier.old.number ≡ true }
     requires computed { frontier.old.computed ≡ turn / 2 }
     requires right { IsRight (L.meaning course.now.law.now) course.now.layout.now frontier.old }
     requires blocks { HaveBlocks (L.meaning course.now.law.now) course.now.layout.now

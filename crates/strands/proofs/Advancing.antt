@@ -55,7 +55,7 @@ join a b c (inl h) = rw (h.0, h.1, h.2) refl
 join a b c (inr (inl h)) = rw (h.0, h.1) refl
 join a b c (inr (inr h)) = rw (h.0, h.1, h.2) refl
 
-between-join : (stretch : Stretch) (from front later : ℕ → ℕ) (s k : ℕ)
+pub between-join : (stretch : Stretch) (from front later : ℕ → ℕ) (s k : ℕ)
     → ((x : ℕ) → x < count_of stretch → (from x ≤ front x) × (front x ≤ later x))
     → (is_between stretch from front s k || is_between stretch front later s k) ≡ is_between stretch from later s k
 between-join stretch from front later s k h =
@@ -89,7 +89,7 @@ between-join stretch from front later s k h =
       ]
     ])
 
-or-assoc : (a b c : Bool) → ((a || b) || c) ≡ (a || (b || c))
+pub or-assoc : (a b c : Bool) → ((a || b) || c) ≡ (a || (b || c))
 or-assoc true b c = refl
 or-assoc false b c = refl
 
@@ -97,7 +97,7 @@ or-none : (a b : Bool) → b ≡ false → a ≡ (a || b)
 or-none true b e = refl
 or-none false b e = sym e
 
-same-marks : (law : Meaning) (fold : Fold) (one other : Marks) → ((s k : ℕ) → one s k ≡ other s k)
+pub same-marks : (law : Meaning) (fold : Fold) (one other : Marks) → ((s k : ℕ) → one s k ≡ other s k)
     → Stands fold (marked law one) → Stands fold (marked law other)
 same-marks law fold one other e h = subst (λ (m : Marks). Stands fold (marked law m)) (λ i s k. e s k i) h
 

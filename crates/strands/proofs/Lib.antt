@@ -4,5 +4,7 @@ mod Feeding
 mod Handing
 mod Loading
 mod Marking
+mod Nodes
+mod Spoking
 mod Starting
 mod Taking

@@ -2,7 +2,7 @@
 use Rattle.std.proofs.Common.{◌≡◌, ℕ, ◌+◌, ◌-◌, ◌<◌, ◌≤◌, ◌⊎◌, inl, inr, ◌∙◌, ap, sym, subst, refl, arith, Bool, true, false, cond, Option, Some, None}
 use Rattle.std.specs.Prelude.{◌||◌}
 use Rattle.std.proofs.Math.Bool.{and-false}
-use Rattle.std.proofs.lemmas.Bool.{lt-ltb, le-ltb, le-leb, lt-leb}
+use Rattle.std.proofs.lemmas.Bool.{eq-eqb, lt-ltb, le-ltb, le-leb, lt-leb, ne_eqb}
 use Rattle.case_model.specs.declared.cases.ProbeAt.{ProbeAt}
 use Rattle.case_model.specs.declared.cases.ProbeAt.TheVariants.{OnPipe}
 use Rattle.case_model.specs.declared.meshes.Mesh.{Mesh}
@@ -17,11 +17,11 @@ use Rattle.envelope.specs.Rows.{noting_at, rows_noted}
 use Rattle.fronts.specs.Bands.{from_ends}
 use Rattle.fronts.specs.Fronts.{Holds, Raises, ever, spot}
 use Rattle.fronts.specs.Noted.{band_noted, run_noted}
-use Rattle.fronts.specs.Stretches.{AreSamePlaces, count_of}
+use Rattle.fronts.specs.Stretches.{AreSamePlaces, count_of, kept}
 use Rattle.fronts.specs.declared.stretches.Stretch.{Stretch}
 use Rattle.fronts.proofs.Lining.{IsOutOfBand, band-in, band-out, in-or-out, is-now, value-of, run-before, run-in, where-is}
-use Rattle.strands.specs.Marks.{Marks, is_between, marked, or_marked}
-use Rattle.strands.specs.Sections.{IsLine}
+use Rattle.strands.specs.Marks.{Marks, is_between, is_only, marked, or_marked}
+use Rattle.strands.specs.Sections.{IsLine, IsNumberedLine}
 
 -- ---- between two fronts
 
@@ -59,7 +59,10 @@ same-between old new front later s k h = rw (h.number_is, h.count_is) refl
 abbrev pub ArePlaces : Type 0
 ArePlaces = (mesh : Mesh) (at : ProbeAt) → IsNumbered mesh → IsOn mesh at → place_at mesh (number_of mesh at) ≡ at
 
-pub rows-at : (law : Meaning) (stretch : Stretch) (t k : ℕ) → ArePlaces → IsLine law stretch
+pub numbered-line : (law : Meaning) (stretch : Stretch) → IsLine law stretch → IsNumberedLine law stretch
+numbered-line law stretch line = record { on_mesh = line.on_mesh; numbered = line.numbered; number_is = line.number_is; few = line.few }
+
+pub rows-at : (law : Meaning) (stretch : Stretch) (t k : ℕ) → ArePlaces → IsNumberedLine law stretch
     → stretch.number ≤ k → k < stretch.number + count_of stretch
     → rows_noted law t k ≡ Some (OfPoint (spot law stretch t (k - stretch.number)))
 rows-at law stretch t k places line low high =
@@ -126,7 +129,7 @@ split-band law stretch step low high front later s k places line ra h =
               between-in stretch front later s k l r (omega arith) (omega arith),
               band-in stretch (step + 1) low high s k e a
                   ∙ ap (λ y. Some (OfPoint y)) (h.cell (step + 1) x b (omega arith) (omega arith) (omega arith))
-                  ∙ sym (rows-at law stretch (step + 1) k places line l r)
+                  ∙ sym (rows-at law stretch (step + 1) k places (numbered-line law stretch line) l r)
                   ∙ ap (λ t. rows_noted law t k) (sym e),
             )
             | inr e ↦ inr (
@@ -212,7 +215,7 @@ run-out stretch step low high since front later s k ra h =
     ]
 
 pub split-run : (law : Meaning) (stretch : Stretch) (step low high : ℕ) (since front later : ℕ → ℕ) (s k : ℕ)
-    → ArePlaces → IsLine law stretch → high ≤ count_of stretch
+    → ArePlaces → IsNumberedLine law stretch → high ≤ count_of stretch
     → Raises step (λ x. x) low high (count_of stretch) since front later
     → Holds law since later stretch
     → IsSplit law (run_noted stretch (step + 1) low high) (is_between stretch front later) s k
@@ -245,8 +248,21 @@ split-run law stretch step low high since front later s k places line inside ra 
       ]
     ]
 
+pub same-numbered : (law : Meaning) (old new : Stretch) → AreSamePlaces old new → IsNumberedLine law old → IsNumberedLine law new
+unfolding count_of
+same-numbered law old new h line = record {
+  on_mesh = record {
+    pipe = rw (h.pipe_is) line.on_mesh.pipe;
+    fits = rw (h.pipe_is, h.first_is, h.count_is) line.on_mesh.fits;
+    small = rw (h.pipe_is) line.on_mesh.small;
+  };
+  numbered = line.numbered;
+  number_is = rw (h.pipe_is, h.first_is, h.number_is) line.number_is;
+  few = rw (h.number_is, h.count_is) line.few;
+}
+
 pub same-split-run : (law : Meaning) (old new : Stretch) (step low high : ℕ) (since front later : ℕ → ℕ)
-    → ArePlaces → IsLine law old → AreSamePlaces old new → high ≤ count_of old
+    → ArePlaces → IsNumberedLine law old → AreSamePlaces old new → high ≤ count_of old
     → Raises step (λ x. x) low high (count_of old) since front later
     → Holds law since later new → (s k : ℕ)
     → IsSplit law (run_noted new (step + 1) low high) (is_between old front later) s k
@@ -254,7 +270,38 @@ same-split-run law old new step low high since front later places line same insi
     let ra' = subst (λ n. Raises step (λ x. x) low high n since front later) (sym same.count_is) ra in
     let size : count_of new ≡ count_of old = same.count_is in
     let e = sym (same-between old new front later s k same) in
-    elim (split-run law new step low high since front later s k places (same-line law old new same line) (omega arith) ra' h) [
+    elim (split-run law new step low high since front later s k places (same-numbered law old new same line) (omega arith) ra' h) [
       | inl a ↦ inl (e ∙ a.0, a.1)
       | inr a ↦ inr (e ∙ a.0, a.1)
     ]
+
+-- ---- one point alone is noted
+
+pub split-only : (law : Meaning) (stretch : Stretch) (step at s k : ℕ) → ArePlaces → IsNumberedLine law stretch
+    → at < count_of stretch → kept stretch step at ≡ spot law stretch step at
+    → IsSplit law (run_noted stretch step at (at + 1)) (is_only step (stretch.number + at)) s k
+split-only law stretch step at s k places line b h = elim (is-now s step) [
+  | inr e ↦ inr (rw (ne_eqb s step e) refl, run-before stretch step at (at + 1) s k (inl e))
+  | inl e ↦ elim (where-is k (stretch.number + at) (stretch.number + at + 1)) [
+    | inl a ↦ inr (rw (ne_eqb k (stretch.number + at) (λ f. omega arith), and-false) refl, run-before stretch step at (at + 1) s k (inr (inl a)))
+    | inr c ↦ elim c [
+      | inl a ↦ inr (
+        rw (ne_eqb k (stretch.number + at) (λ f. omega arith), and-false) refl,
+        run-before stretch step at (at + 1) s k (inr (inr (omega arith))),
+      )
+      | inr a ↦
+          let lo : stretch.number + at ≤ k = a.0 in
+          let hi : k < stretch.number + at + 1 = a.1 in
+          let x : k - stretch.number ≡ at = omega arith in
+          inl (
+            rw (eq-eqb s step e, eq-eqb k (stretch.number + at) (omega arith)) refl,
+            run-in stretch step at (at + 1) s k e lo (omega arith)
+                ∙ ap (λ y. Some (OfPoint (kept stretch step y))) x
+                ∙ ap (λ y. Some (OfPoint y)) h
+                ∙ ap (λ y. Some (OfPoint (spot law stretch step y))) (sym x)
+                ∙ sym (rows-at law stretch step k places line (omega arith) (omega arith))
+                ∙ ap (λ t. rows_noted law t k) (sym e),
+          )
+    ]
+  ]
+]

@@ -1,22 +1,16 @@
 -- The start of a seam: its own point alone, kept and noted.
 use Rattle.std.proofs.Common.{◌≡◌, ℕ, ◌+◌, ◌-◌, ◌*◌, ◌<◌, ◌≤◌, ◌⊎◌, inl, inr, ◌∙◌, ap, sym, refl}
-use Rattle.std.proofs.Common.{arith, Bool, true, false, Some}
+use Rattle.std.proofs.Common.{arith, Bool, true, false}
 use Rattle.std.specs.Prelude.{◌^◌, length}
-use Rattle.std.proofs.Math.Bool.{and-false}
-use Rattle.std.proofs.lemmas.Bool.{eq-eqb, le-ltb, lt-ltb, ne_eqb}
+use Rattle.std.proofs.lemmas.Bool.{le-ltb, lt-ltb}
 use Rattle.case_model.specs.Meaning.{Meaning}
 use Rattle.case_model.specs.Mesh.{IsNumbered, base_of, reaches}
 use Rattle.case_model.specs.Rows.{Row}
 use Rattle.case_model.proofs.RowLaws.{row-start}
-use Rattle.envelope.specs.Notings.Noting.{OfPoint}
-use Rattle.envelope.specs.Rows.{rows_noted}
 use Rattle.fronts.specs.Fronts.{Holds, Puts, spot}
-use Rattle.fronts.specs.Noted.{run_noted}
-use Rattle.fronts.specs.Stretches.{IsStretchOf, count_of}
+use Rattle.fronts.specs.Stretches.{IsStretchOf, count_of, kept}
 use Rattle.fronts.specs.declared.stretches.Stretch.{Stretch}
-use Rattle.fronts.proofs.Lining.{is-now, run-before, run-in}
-use Rattle.strands.proofs.Marking.{ArePlaces, IsSplit, rows-at}
-use Rattle.strands.specs.Seams.{is_loaded, open_front, open_since, starts}
+use Rattle.strands.specs.Seams.{is_loaded, open_front, open_since}
 use Rattle.strands.specs.Sections.{IsLine}
 use Rattle.strands.specs.Stations.{half, seam_front, seam_since}
 
@@ -81,40 +75,14 @@ start-is law stretch pipe place at e f =
     ap (λ p. law.start_point p place) (sym e) ∙ ap (law.start_point stretch.pipe) (sym f)
     ∙ sym (ap (λ (r : Row). r.point stretch.pipe (stretch.first + at)) (row-start law))
 
--- ---- the noted start
-
-pub split-start : (law : Meaning) (w : ℕ) (stretch : Stretch) (left right : Bool) (at s k : ℕ)
-    → ArePlaces → IsLine law stretch → count_of stretch ≡ 2 * half w + 1 → at ≡ half w
+pub own-kept : (law : Meaning) (w : ℕ) (stretch : Stretch) (left right : Bool) (at : ℕ)
+    → count_of stretch ≡ 2 * half w + 1 → at ≡ half w
     → Holds law (open_since left right w 0) (open_front left right w 0) stretch
-    → IsSplit law (run_noted stretch 0 at (at + 1)) (starts (stretch.number + at)) s k
-split-start law w stretch left right at s k places line size e h = elim (is-now s 0) [
-  | inr a ↦ inr (rw (ne_eqb s 0 a) refl, run-before stretch 0 at (at + 1) s k (inl a))
-  | inl a ↦ elim (order k (stretch.number + at)) [
-    | inl b ↦ inr (
-      rw (ne_eqb k (stretch.number + at) (λ z. omega arith), and-false) refl,
-      run-before stretch 0 at (at + 1) s k (inr (inl b)),
-    )
-    | inr c ↦ elim c [
-      | inr b ↦ inr (
-        rw (ne_eqb k (stretch.number + at) (λ z. omega arith), and-false) refl,
-        run-before stretch 0 at (at + 1) s k (inr (inr (omega arith))),
-      )
-      | inl b ↦
-          let x = k - stretch.number in
-          let own : x ≡ half w = omega arith in
-          let f = front-in left right w 0 x (loaded-own left right (half w) x own) in
-          let g = since-in left right w 0 x (loaded-own left right (half w) x own) in
-          inl (
-            rw (eq-eqb s 0 a, eq-eqb k (stretch.number + at) b) refl,
-            run-in stretch 0 at (at + 1) s k a (omega arith) (omega arith)
-                ∙ ap (λ y. Some (OfPoint y))
-                (h.cell 0 x (omega arith) (omega arith) (omega arith) (omega arith))
-                ∙ sym (rows-at law stretch 0 k places line (omega arith) (omega arith))
-                ∙ ap (λ t. rows_noted law t k) (sym a),
-          )
-    ]
-  ]
-]
+    → kept stretch 0 at ≡ spot law stretch 0 at
+own-kept law w stretch left right at size e h =
+    let f = front-in left right w 0 at (loaded-own left right (half w) at e) in
+    let g = since-in left right w 0 at (loaded-own left right (half w) at e) in
+    h.cell 0 at (omega arith) (omega arith) (omega arith) (omega arith)
 
 pub started-line : (law : Meaning) (w pipe place number : ℕ) (stretch : Stretch)
     → IsStretchOf pipe (place - half w) (number - half w) (2 * half w + 1) stretch → 1 ≤ w

@@ -19,6 +19,10 @@ marked law marks s k = if marks s k then rows_noted law s k else None
 abbrev pub or_marked : Marks → Marks → Marks
 or_marked one other s k = one s k || other s k
 
+-- one step and place number alone
+abbrev pub is_only : ℕ → ℕ → Marks
+is_only step place s k = (s == step) && (k == place)
+
 -- the steps behind one front of a stretch up to another, place by place
 abbrev pub is_between : Stretch → (ℕ → ℕ) → (ℕ → ℕ) → Marks
 is_between stretch front later s k =

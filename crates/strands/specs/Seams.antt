@@ -1,11 +1,10 @@
 -- The strand of a seam: what it has taken in of the blocks beside it, and how far it is computed.
-use Rattle.std.specs.Prelude.{◌≡◌, ℕ, ◌+◌, ◌-◌, ◌*◌, ◌/◌, ◌≤◌, ◌==◌, ◌&&◌, ◌||◌, not, nat_lt, Bool}
+use Rattle.std.specs.Prelude.{◌≡◌, ℕ, ◌+◌, ◌-◌, ◌*◌, ◌/◌, ◌≤◌, ◌||◌, not, nat_lt, Bool}
 use Rattle.std.specs.Prelude.{true, false, if◌then◌else◌}
 use Rattle.case_model.specs.Meaning.{Meaning}
 use Rattle.fronts.specs.Fronts.{Holds}
 use Rattle.fronts.specs.Stretches.{AreSamePlaces, IsStretchOf, count_of}
 use Rattle.fronts.specs.declared.stretches.Stretch.{Stretch}
-use Rattle.strands.specs.Marks.{Marks}
 use Rattle.strands.specs.Sections.{IsLine}
 use Rattle.strands.specs.Stations.{half, seam_front, seam_since}
 use Rattle.strands.specs.declared.seams.Seam.{Seam}
@@ -63,7 +62,3 @@ pub record IsLoaded (right : Bool) (old new : Seam) : Type 0 where
 -- the place number of the seam itself: it stands in the middle of its stretch
 abbrev pub number_of_seam : Seam → ℕ
 number_of_seam seam = seam.stretch.number + count_of seam.stretch / 2
-
--- the start of one place
-abbrev pub starts : ℕ → Marks
-starts number s k = (s == 0) && (k == number)

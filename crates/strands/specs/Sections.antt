@@ -19,6 +19,13 @@ pub record IsLine (law : Meaning) (stretch : Stretch) : Type 0 where
   pub long : 3 ≤ count_of stretch
   pub few : stretch.number + count_of stretch < 2 ^ 32
 
+-- the stretch lies on the mesh with its place numbers
+pub record IsNumberedLine (law : Meaning) (stretch : Stretch) : Type 0 where
+  pub on_mesh : IsOnMesh law stretch
+  pub numbered : IsNumbered law.mesh
+  pub number_is : stretch.number ≡ base_of law.mesh stretch.pipe + stretch.first
+  pub few : stretch.number + count_of stretch < 2 ^ 32
+
 -- the fold has the places between the ends of the stretch
 abbrev pub NotesInside : Stretch → Fold → Type 0
 NotesInside stretch fold = AreInOneSpan (spans_of fold) (stretch.number + 1) (count_of stretch - 2)

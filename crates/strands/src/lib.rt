@@ -4,15 +4,18 @@
 
 mod besides;
 mod blocks;
+mod hubs;
 mod ranges;
 mod seams;
 mod sections;
+mod spokes;
 mod starts;
 mod stations;
 mod tents;
 
 pub use besides::{load_beside, write_beside};
 pub use blocks::{load_side, write_side};
+pub use hubs::Hub;
 pub use seams::Seam;
 pub use sections::{advance, advance_region, advance_start};
 pub use stations::{advance_run, advance_seam};

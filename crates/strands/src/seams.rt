@@ -26,9 +26,9 @@ impl Seam {
     ghost use Rattle.envelope.specs.Folds.{IsSameFold, Stands, spans_of};
     ghost use Rattle.fronts.specs.Stretches.{AreSamePlaces, count_of};
     ghost use Rattle.strands.specs.Beside.{inner_side, outer_side};
-    ghost use Rattle.strands.specs.Marks.{Marks, is_between, marked, or_marked};
+    ghost use Rattle.strands.specs.Marks.{Marks, is_between, is_only, marked, or_marked};
     ghost use Rattle.strands.specs.Seams.{IsLoaded, IsSeamAt, IsSeamDone, IsSeamOf};
-    ghost use Rattle.strands.specs.Seams.{has_block, number_of_seam, starts, stretch_of};
+    ghost use Rattle.strands.specs.Seams.{has_block, number_of_seam, stretch_of};
     ghost use Rattle.strands.specs.Stations.{NotesTriangles, half, seam_front};
     ghost use Rattle.strands.specs.Words.{HasPoints};
 
@@ -72,7 +72,7 @@ impl Seam {
         ensures same_fold { IsSameFold fold.old fold.new }
         ensures stands { (law : Meaning) (w : ℕ) (marks : Marks) → IsSeamAt law w 0 self.now →
             Stands fold.old (marked law marks) →
-            Stands fold.new (marked law (or_marked marks (starts (number_of_seam self.now)))) }
+            Stands fold.new (marked law (or_marked marks (is_only 0 (number_of_seam self.now)))) }
     {
         numbers_tell_places();
         stands_for_equal_maps();

@@ -2,7 +2,7 @@ use Rattle.std.proofs.Common.{◌+◌, arith}
 use Rattle.envelope.specs.Notings.{union}
 use Rattle.fronts.specs.Noted.{run_noted}
 use Rattle.strands.specs.Marks.{is_between, marked, or_marked}
-use Rattle.strands.proofs.Marking.{agree-marked, same-split-run, union-marked}
+use Rattle.strands.proofs.Marking.{agree-marked, numbered-line, same-split-run, union-marked}
 use Rattle.strands.proofs.stations.advance_run.Goals as goal
 
 pub returns : goal.returns
@@ -12,7 +12,7 @@ returns g c = λ since front later ra h.
     let new = c.step_run.new.self in
     let run = run_noted new (c.args.step + 1) c.args.low c.args.high in
     let held = c.step_run.ensures.holds since front later ra h in
-    let split = same-split-run law old new c.args.step c.args.low c.args.high since front later c.numbers_tell_places.ensures.place c.requires.line c.step_run.ensures.stepped.same (omega (arith, c.requires.before_last)) ra held in
+    let split = same-split-run law old new c.args.step c.args.low c.args.high since front later c.numbers_tell_places.ensures.place (numbered-line law old c.requires.line) c.step_run.ensures.stepped.same (omega (arith, c.requires.before_last)) ra held in
     record {
       same = c.step_run.ensures.stepped.same;
       same_fold = c.note.ensures.same;

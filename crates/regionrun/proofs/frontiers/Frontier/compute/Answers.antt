@@ -1,21 +1,8 @@
-use Rattle.std.proofs.Common.{rules, ◌≡◌, ℕ, ◌+◌, ◌*◌, ◌<◌, ◌≤◌, ◌||◌, ◌==◌, length, is_some, ◌-◌, ◌/◌, ◌%◌, Bool, true, false, nat_eq, nat_lt, List, [], ◌∷◌, ◌++◌, slice_index_or, slice_set, bit_and, bit_or, Fits, w8, w32, w64, Bor, MutBor}
-use Rattle.case_model.specs.Meaning.{Meaning}
-use Rattle.regionrun.specs.Handed.{IsBlock}
-use Rattle.regionrun.specs.Right.{IsBare, IsReadySome, IsRight, IsSameStrand, IsWanted, IsWantedSome, has_loaded}
-use Rattle.regions.specs.declared.shapes.Layout.{Layout}
-use Rattle.regions.specs.Needs.{needs_of}
-use Rattle.regions.specs.Sides.{is_section}
+use Rattle.std.proofs.Common.{ℕ, ◌<◌, subst}
+use Rattle.regionrun.specs.Right.{has_loaded}
 use Rattle.regionrun.proofs.frontiers.Frontier.compute.Goals as goal
 
--- src/frontiers.rt:53:5
-pub returns-clause-block : goal.returns-clause-block
-returns-clause-block g c = ?
-
--- src/frontiers.rt:53:5
-pub returns-clause-more : goal.returns-clause-more
-returns-clause-more g c = ?
-
--- src/frontiers.rt:53:5
 pub returns-clause-bare : goal.returns-clause-bare
-returns-clause-bare g c = ?
-
+unfolding has_loaded
+returns-clause-bare g c = λ side here.
+    c.advance.ensures.bare side (subst (λ (n : ℕ). side < n) c.advance.ensures.sides here)

@@ -1,13 +1,38 @@
-use Rattle.std.proofs.Common.{rules, ◌≡◌, ℕ, ◌+◌, ◌*◌, ◌<◌, ◌≤◌, ◌||◌, ◌==◌, length, is_some, ◌-◌, ◌/◌, ◌%◌, Bool, true, false, nat_eq, nat_lt, List, [], ◌∷◌, ◌++◌, slice_index_or, slice_set, bit_and, bit_or, Fits, w8, w32, w64, Bor, MutBor}
-use Rattle.case_model.specs.Meaning.{Meaning}
-use Rattle.regionrun.specs.Handed.{IsBlock}
-use Rattle.regionrun.specs.Right.{IsBare, IsReadySome, IsRight, IsSameStrand, IsWanted, IsWantedSome, has_loaded}
-use Rattle.regions.specs.declared.shapes.Layout.{Layout}
-use Rattle.regions.specs.Needs.{needs_of}
-use Rattle.regions.specs.Sides.{is_section}
+use Rattle.std.proofs.Common.{ℕ, ◌<◌, subst}
+use Rattle.regionrun.proofs.Keeping.{right-sides, taken, wanted-side}
+use Rattle.regionrun.specs.Right.{has_loaded}
 use Rattle.regionrun.proofs.frontiers.Frontier.load.Goals as goal
 
--- src/frontiers.rt:38:5
-pub returns-clause-loaded : goal.returns-clause-loaded
-returns-clause-loaded g c = ?
+pub load-requires-clause-side : goal.load-requires-clause-side
+load-requires-clause-side g c =
+    wanted-side (g.L.Law.meaning c.args.law.now) c.requires.wanted.layout c.args.self.now
+    c.args.side c.args.words.now c.requires.wanted.wanted
 
+pub returns-clause-right : goal.returns-clause-right
+returns-clause-right g c = λ layout wanted.
+    let law = g.L.Law.meaning c.args.law.now in
+    let right = wanted.right in
+    record {
+      laid_out = right.laid_out;
+      there = right.there;
+      window_is = right.window_is;
+      windows_are = right.windows_are;
+      sides_are = right.sides_are;
+      regions = right.regions;
+      keeps = taken law layout c.args.self.now c.load.new.self c.args.side c.args.words.now
+          (c.layouts_are_lawful.ensures layout law.mesh right.laid_out) wanted
+          c.load.ensures.loaded.same (c.load.ensures.open law c.keeps_range.ensures);
+      spans = right.spans;
+      steps = right.steps;
+      stands = right.stands;
+    }
+
+pub returns-clause-loaded : goal.returns-clause-loaded
+unfolding has_loaded
+returns-clause-loaded g c = λ side here.
+    let law = g.L.Law.meaning c.args.law.now in
+    let ready = c.requires.wanted in
+    c.load.ensures.loaded.loaded side
+    (subst (λ (n : ℕ). side < n)
+    (right-sides law ready.layout c.args.self.now.computed c.args.self.now ready.wanted.right)
+    here)

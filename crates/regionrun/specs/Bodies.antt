@@ -1,0 +1,118 @@
+-- What a strand keeps of its places, by its kind: what is computed of it, what it takes in, and
+-- what it hands on. Windows have w steps; c is how many regions are computed.
+use Rattle.std.specs.Prelude.{◌≡◌, ℕ, zero, suc, ◌+◌, ◌-◌, ◌*◌, ◌<◌, ◌≤◌, ◌==◌, ◌||◌, Bool, true}
+use Rattle.std.specs.Prelude.{false, if◌then◌else◌, List}
+use Rattle.case_model.specs.Meaning.{Meaning}
+use Rattle.envelope.specs.declared.folds.Fold.{Fold}
+use Rattle.fronts.specs.Fronts.{loaded, risen, tent}
+use Rattle.fronts.specs.Stretches.{AreSamePlaces, count_of}
+use Rattle.fronts.specs.declared.stretches.Stretch.{Stretch}
+use Rattle.regionrun.specs.declared.bodies.Body.{Body}
+use Rattle.regionrun.specs.declared.bodies.Body.TheVariants.{OfSeam, OfSection}
+use Rattle.strands.specs.Beside.{inner_side, outer_side}
+use Rattle.strands.specs.Marks.{Marks, is_between}
+use Rattle.strands.specs.Seams.{IsSeamAt, IsSeamDone}
+use Rattle.strands.specs.Sections.{NotesInside}
+use Rattle.strands.specs.Stations.{NotesTriangles, half, seam_front}
+use Rattle.strands.specs.Tents.{IsFreshSection, IsSectionAt, IsUnfed}
+use Rattle.strands.specs.Words.{HasPoints, section_side, station_side}
+use Rattle.strands.specs.declared.tents.Section.{Section}
+
+abbrev pub is_section_body : Body → Bool
+is_section_body (OfSection section) = true
+is_section_body (OfSeam seam) = false
+
+-- how many neighbours the strand has
+abbrev pub side_count : Body → ℕ
+side_count (OfSection section) = 2
+side_count (OfSeam seam) = 2
+
+-- whether the block of side c is loaded
+abbrev pub has_block : Body → ℕ → Bool
+has_block (OfSection section) c = if c == 0 then section.left else section.right
+has_block (OfSeam seam) c = if c == 0 then seam.left else seam.right
+
+-- the step after which the window begins whose blocks the next region needs: a section's region
+-- m + 1 goes over window m
+abbrev pub window_start : Body → ℕ → ℕ → ℕ
+window_start (OfSection section) w c = (c - 1) * w
+window_start (OfSeam seam) w c = c * w
+
+-- the places are those that windows of w steps want
+abbrev pub FitsWindow : ℕ → Body → Type 0
+FitsWindow w (OfSection section) = w + 1 ≤ count_of section.stretch
+FitsWindow w (OfSeam seam) = (1 ≤ w) × (count_of seam.stretch ≡ 2 * half w + 1)
+
+-- a section of which c regions are computed
+abbrev pub IsSectionAfter : Meaning → ℕ → Section → ℕ → Type 0
+IsSectionAfter law w section zero = IsFreshSection law section
+IsSectionAfter law w section (suc m) = IsSectionAt law w (m * w) section
+
+-- a strand of which c regions are computed, with the blocks that are loaded for the next one
+abbrev pub IsBodyAt : Meaning → ℕ → Body → ℕ → Type 0
+IsBodyAt law w (OfSection section) c = IsSectionAfter law w section c
+IsBodyAt law w (OfSeam seam) c = IsSeamAt law w (c * w) seam
+
+-- the same where the next region needs blocks
+abbrev pub IsOpen : Meaning → ℕ → ℕ → Body → Type 0
+IsOpen law w c (OfSection section) = IsSectionAt law w ((c - 1) * w) section
+IsOpen law w c (OfSeam seam) = IsSeamAt law w (c * w) seam
+
+-- the strand when its region number c was computed last
+abbrev pub IsComputed : Meaning → ℕ → ℕ → Body → Type 0
+IsComputed law w c (OfSection section) = IsSectionAt law w (c * w) section × IsUnfed section
+IsComputed law w c (OfSeam seam) = IsSeamDone law w (c * w) seam × IsSeamAt law w (c * w + w) seam
+
+-- the words have the points that the next region needs of a side
+abbrev pub HasIncoming : Meaning → ℕ → ℕ → ℕ → Body → List ℕ → Type 0
+HasIncoming law w c side (OfSection section) words =
+    HasPoints w (station_side law section.stretch (side == 0) w ((c - 1) * w)) words
+HasIncoming law w c side (OfSeam seam) words =
+    HasPoints w (outer_side law seam.stretch (side == 1) (half w) (c * w)) words
+
+-- the words have the points of region c for a side
+abbrev pub HasOutgoing : Meaning → ℕ → ℕ → ℕ → Body → List ℕ → Type 0
+HasOutgoing law w c side (OfSection section) words =
+    HasPoints w (section_side law section.stretch (side == 0) (c * w)) words
+HasOutgoing law w c side (OfSeam seam) words =
+    HasPoints w (inner_side law seam.stretch (side == 1) (half w) w (c * w)) words
+
+-- two bodies of the same kind, with the same places
+abbrev pub IsSameBody : Body → Body → Type 0
+IsSameBody (OfSection old) (OfSection new) = AreSamePlaces old.stretch new.stretch
+IsSameBody (OfSection old) (OfSeam new) = ⊥
+IsSameBody (OfSeam old) (OfSection new) = ⊥
+IsSameBody (OfSeam old) (OfSeam new) = AreSamePlaces old.stretch new.stretch
+
+-- no block is loaded
+abbrev pub IsBareBody : Body → Type 0
+IsBareBody body = (c : ℕ) → c < side_count body → has_block body c ≡ false
+
+-- all blocks that the next region needs are loaded
+abbrev pub IsFedBody : Body → ℕ → Type 0
+IsFedBody body c =
+    (side : ℕ) → (is_section_body body ≡ true → 1 ≤ c) → side < side_count body
+    → has_block body side ≡ true
+
+-- the block of this side is loaded, and nothing changes of the places and of the other sides
+pub record HasLoaded (side : ℕ) (old new : Body) : Type 0 where
+  pub same : IsSameBody old new
+  pub loaded : (c : ℕ) → c < side_count old → has_block new c ≡ (has_block old c || (c == side))
+
+-- the fold has the places that the strand's regions own
+abbrev pub IsNoting : ℕ → Fold → Body → Type 0
+IsNoting w fold (OfSection section) = NotesInside section.stretch fold
+IsNoting w fold (OfSeam seam) = NotesTriangles w seam.stretch fold
+
+-- the steps and places of region c
+abbrev pub section_marks : ℕ → Stretch → ℕ → Marks
+section_marks w stretch zero =
+    is_between stretch (risen (count_of stretch - 1) 0) (tent 0 (count_of stretch - 1))
+section_marks w stretch (suc m) =
+    is_between stretch (loaded (m * w) w (count_of stretch - 1))
+    (tent (m * w + w) (count_of stretch - 1))
+
+abbrev pub body_marks : ℕ → Body → ℕ → Marks
+body_marks w (OfSection section) c = section_marks w section.stretch c
+body_marks w (OfSeam seam) c =
+    is_between seam.stretch (seam_front w (c * w) 0) (seam_front w (c * w) w)
