@@ -13,8 +13,8 @@ pub mod Nodes
 pub mod Owning
 pub mod Reached
 pub mod Seams
-pub mod Spans
 pub mod Spanned
+pub mod Spans
 pub mod Spots
 pub mod Starts
 pub mod Tents
