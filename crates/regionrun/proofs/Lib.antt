@@ -1,3 +1,4 @@
+mod AtNodes
 mod ByKind
 mod Flags
 mod Handing
