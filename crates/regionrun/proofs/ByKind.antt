@@ -16,6 +16,8 @@ use Rattle.regions.specs.Sides.{sides_of}
 use Rattle.regions.specs.declared.shapes.Layout.{Layout}
 use Rattle.regions.specs.declared.shapes.Shape.{Shape}
 use Rattle.regions.specs.declared.shapes.Shape.TheVariants.{OfNode, OfSeam, OfSection}
+use Rattle.regionrun.proofs.AtNodes.{AreAtEnds, hub-fits, hub-incoming, hub-noted, hub-outgoing}
+use Rattle.regionrun.proofs.AtNodes.{hub-owned, hub-placed, hub-sides, over-hub}
 use Rattle.regionrun.proofs.Handing.{section-lawful, section-reads, section-writes, seam-lawful}
 use Rattle.regionrun.proofs.Handing.{station-reads, station-writes}
 use Rattle.regionrun.proofs.Seams.{IsOverSeam, owned-seam, seam-stands}
@@ -26,12 +28,13 @@ use Rattle.regionrun.specs.Bodies.{is_section_body, section_marks, side_count}
 use Rattle.regionrun.specs.Handed.{HasSection, HasStation, IsBlockFor}
 use Rattle.regionrun.specs.Lawful.{IsLawful}
 use Rattle.regionrun.specs.Owned.{owned}
-use Rattle.regionrun.specs.Right.{IsBodyOf, IsSeamStretch, IsSectionStretch, strand_spans}
+use Rattle.regionrun.specs.Right.{IsBodyOf, IsNodeOf, IsSeamStretch, IsSectionStretch, strand_spans}
 use Rattle.regionrun.specs.declared.bodies.Body.{Body}
-use Rattle.regionrun.specs.declared.bodies.Body.TheVariants.{OfSeam as SeamBody, OfSection as SectionBody}
+use Rattle.regionrun.specs.declared.bodies.Body.TheVariants.{OfNode as NodeBody, OfSeam as SeamBody, OfSection as SectionBody}
 use Rattle.schedule.specs.Nets.{regions_of}
 use Rattle.fronts.specs.Fronts.{loaded, risen, tent}
 use Rattle.strands.specs.Marks.{is_between, or_marked}
+use Rattle.strands.specs.Hubs.{IsHubAt}
 use Rattle.strands.specs.Seams.{IsSeamAt}
 use Rattle.strands.specs.Stations.{half}
 use Rattle.strands.specs.Tents.{IsSectionAt}
@@ -122,32 +125,51 @@ has-station layout mesh x c stretch lawful there side places =
 
 -- ---- any strand
 
+-- the places of a body are those of a strand of this shape
+abbrev pub IsPlaced : Mesh → ℕ → Shape → Body → Type 0
+IsPlaced mesh w shape (SectionBody section) = IsSectionStretch mesh shape section.stretch
+IsPlaced mesh w shape (SeamBody seam) = IsSeamStretch mesh w shape seam.stretch
+IsPlaced mesh w shape (NodeBody hub) = IsNodeOf shape hub.node × AreAtEnds mesh w hub
+
+pub body-placed : (law : Meaning) (w c : ℕ) (shape : Shape) (body : Body)
+    → IsBodyOf law.mesh w shape body → IsBodyAt law w body c → IsPlaced law.mesh w shape body
+body-placed law w c shape (SectionBody section) places at = places
+body-placed law w c shape (SeamBody seam) places at = places
+body-placed law w c shape (NodeBody hub) places at = (places, hub-placed law w (c * w) hub at)
+
 -- the kind of the body is that of its strand
 pub body-kind : (layout : Layout) (mesh : Mesh) (x : ℕ) (body : Body)
-    → x < length layout.shapes → IsBodyOf mesh layout.window (shape_at layout x) body
+    → x < length layout.shapes → IsPlaced mesh layout.window (shape_at layout x) body
     → is_section layout x ≡ is_section_body body
 body-kind layout mesh x (SectionBody section) there places =
     ap is_section_shape (over-section layout mesh x section.stretch there places).over.shape
 body-kind layout mesh x (SeamBody seam) there places =
     ap is_section_shape (over-seam layout mesh x seam.stretch there places).over.shape
+body-kind layout mesh x (NodeBody hub) there places =
+    ap is_section_shape (over-hub layout mesh x hub there places.0 places.1).shape
 
 -- and it has as many sides
 pub body-sides : (layout : Layout) (mesh : Mesh) (x : ℕ) (body : Body)
-    → x < length layout.shapes → IsBodyOf mesh layout.window (shape_at layout x) body
+    → x < length layout.shapes → IsPlaced mesh layout.window (shape_at layout x) body
     → sides_of layout mesh x ≡ side_count body
 unfolding sides_of
 body-sides layout mesh x (SectionBody section) there places =
     ap (sides_in mesh) (over-section layout mesh x section.stretch there places).over.shape
 body-sides layout mesh x (SeamBody seam) there places =
     ap (sides_in mesh) (over-seam layout mesh x seam.stretch there places).over.shape
+body-sides layout mesh x (NodeBody hub) there places =
+    let over = over-hub layout mesh x hub there places.0 places.1 in
+    ap (sides_in mesh) over.shape ∙ hub-sides layout mesh x hub over
 
 pub body-fits : (layout : Layout) (mesh : Mesh) (x : ℕ) (body : Body) → IsLawful layout mesh
-    → x < length layout.shapes → IsBodyOf mesh layout.window (shape_at layout x) body
+    → x < length layout.shapes → IsPlaced mesh layout.window (shape_at layout x) body
     → FitsWindow layout.window body
 body-fits layout mesh x (SectionBody section) lawful there places =
     (has-section layout mesh x section.stretch lawful there places).long
 body-fits layout mesh x (SeamBody seam) lawful there places =
     (lawful.whole.some, (over-seam layout mesh x seam.stretch there places).over.over.count_is)
+body-fits layout mesh x (NodeBody hub) lawful there places =
+    hub-fits layout mesh x hub lawful (over-hub layout mesh x hub there places.0 places.1)
 
 -- ---- blocks
 
@@ -161,7 +183,7 @@ need-station m b e = cc
 -- the block that is handed to a strand has the points that its next region needs
 pub body-incoming : (law : Meaning) (layout : Layout) (x m b side : ℕ) (body : Body)
     (words : List ℕ) → IsLawful layout law.mesh
-    → x < length layout.shapes → IsBodyOf law.mesh layout.window (shape_at layout x) body
+    → x < length layout.shapes → IsPlaced law.mesh layout.window (shape_at layout x) body
     → side < side_count body → needs_of (is_section_body body) m ≡ Some b
     → IsBlockFor law layout (side_of layout law.mesh x side) (back_of layout law.mesh x side) b
     words
@@ -176,11 +198,16 @@ body-incoming law layout x m b side (SeamBody seam) words lawful there places he
     (has-station layout law.mesh x side seam.stretch lawful there here places)
     (subst (λ (z : ℕ). IsBlockFor law layout (side_of layout law.mesh x side)
     (back_of layout law.mesh x side) z words) (need-station m b need) h)
+body-incoming law layout x m b side (NodeBody hub) words lawful there places here need h =
+    hub-incoming law layout x m side hub words lawful
+    (over-hub layout law.mesh x hub there places.0 places.1) here
+    (subst (λ (z : ℕ). IsBlockFor law layout (side_of layout law.mesh x side)
+    (back_of layout law.mesh x side) z words) (need-station m b need) h)
 
 -- what a strand hands on is its block
 pub body-outgoing : (law : Meaning) (layout : Layout) (x m side : ℕ) (body : Body)
     (words : List ℕ) → IsLawful layout law.mesh
-    → x < length layout.shapes → IsBodyOf law.mesh layout.window (shape_at layout x) body
+    → x < length layout.shapes → IsPlaced law.mesh layout.window (shape_at layout x) body
     → side < side_count body → length words ≡ 4 * layout.window
     → HasOutgoing law layout.window m side body words
     → IsBlockFor law layout x side m words
@@ -190,6 +217,9 @@ body-outgoing law layout x m side (SectionBody section) words lawful there place
 body-outgoing law layout x m side (SeamBody seam) words lawful there places here size h =
     station-writes law layout x side m (side == 1) (half layout.window) seam.stretch words
     (has-station layout law.mesh x side seam.stretch lawful there here places) size h
+body-outgoing law layout x m side (NodeBody hub) words lawful there places here size h =
+    hub-outgoing law layout x m side hub words lawful
+    (over-hub layout law.mesh x hub there places.0 places.1) here size h
 
 -- ---- regions
 
@@ -212,11 +242,13 @@ pub body-open : (law : Meaning) (w c : ℕ) (body : Body) → (is_section_body b
     → IsBodyAt law w body c → IsOpen law w c body
 body-open law w c (SectionBody section) some h = section-open law w c section (some refl) h
 body-open law w c (SeamBody seam) some h = h
+body-open law w c (NodeBody hub) some h = h
 
 pub body-shut : (law : Meaning) (w c : ℕ) (body : Body) → (is_section_body body ≡ true → 1 ≤ c)
     → IsOpen law w c body → IsBodyAt law w body c
 body-shut law w c (SectionBody section) some h = section-shut law w c section (some refl) h
 body-shut law w c (SeamBody seam) some h = h
+body-shut law w c (NodeBody hub) some h = h
 
 -- one region more
 pub body-later : (law : Meaning) (w c : ℕ) (body : Body) → IsComputed law w c body
@@ -227,6 +259,9 @@ body-later law w c (SectionBody section) h =
 body-later law w c (SeamBody seam) h =
     let e : c * w + w ≡ (c + 1) * w = omega arith in
     subst (λ (z : ℕ). IsSeamAt law w z seam) e h.1
+body-later law w c (NodeBody hub) h =
+    let e : c * w + w ≡ (c + 1) * w = omega arith in
+    subst (λ (z : ℕ). IsHubAt law w z hub) e h.1
 
 -- ---- the same places
 
@@ -262,18 +297,34 @@ same-body mesh w shape (SectionBody old) (SeamBody new) same is = absurd same
 same-body mesh w shape (SeamBody old) (SectionBody new) same is = absurd same
 same-body mesh w shape (SeamBody old) (SeamBody new) same is =
     same-seam mesh w shape old.stretch new.stretch same is
+same-body mesh w shape (SectionBody old) (NodeBody new) same is = absurd same
+same-body mesh w shape (SeamBody old) (NodeBody new) same is = absurd same
+same-body mesh w shape (NodeBody old) (SectionBody new) same is = absurd same
+same-body mesh w shape (NodeBody old) (SeamBody new) same is = absurd same
+same-body mesh w shape (NodeBody old) (NodeBody new) same is =
+    subst (IsNodeOf shape) (sym same.node_is) is
 
 pub same-kind : (old new : Body) → IsSameBody old new → is_section_body new ≡ is_section_body old
 same-kind (SectionBody old) (SectionBody new) same = refl
 same-kind (SectionBody old) (SeamBody new) same = absurd same
 same-kind (SeamBody old) (SectionBody new) same = absurd same
 same-kind (SeamBody old) (SeamBody new) same = refl
+same-kind (SectionBody old) (NodeBody new) same = absurd same
+same-kind (SeamBody old) (NodeBody new) same = absurd same
+same-kind (NodeBody old) (SectionBody new) same = absurd same
+same-kind (NodeBody old) (SeamBody new) same = absurd same
+same-kind (NodeBody old) (NodeBody new) same = refl
 
 pub same-sides : (old new : Body) → IsSameBody old new → side_count old ≡ side_count new
 same-sides (SectionBody old) (SectionBody new) same = refl
 same-sides (SectionBody old) (SeamBody new) same = absurd same
 same-sides (SeamBody old) (SectionBody new) same = absurd same
 same-sides (SeamBody old) (SeamBody new) same = refl
+same-sides (SectionBody old) (NodeBody new) same = absurd same
+same-sides (SeamBody old) (NodeBody new) same = absurd same
+same-sides (NodeBody old) (SectionBody new) same = absurd same
+same-sides (NodeBody old) (SeamBody new) same = absurd same
+same-sides (NodeBody old) (NodeBody new) same = sym same.each
 
 -- ---- what is noted
 
@@ -295,7 +346,7 @@ seam-spans mesh w p place l r = refl
 
 pub body-noted : (layout : Layout) (mesh : Mesh) (x : ℕ) (body : Body) (fold : Fold)
     → IsLawful layout mesh
-    → x < length layout.shapes → IsBodyOf mesh layout.window (shape_at layout x) body
+    → x < length layout.shapes → IsPlaced mesh layout.window (shape_at layout x) body
     → spans_of fold ≡ strand_spans mesh layout.window (shape_at layout x)
     → IsNoting layout.window fold body
 body-noted layout mesh x (SectionBody section) fold lawful there places spans =
@@ -320,6 +371,9 @@ body-noted layout mesh x (SeamBody seam) fold lawful there places spans =
     (spans ∙ ap (strand_spans mesh w) o.over.shape
     ∙ seam-spans mesh w o.pipe o.place o.left o.right)
     (omega arith) (omega arith)
+body-noted layout mesh x (NodeBody hub) fold lawful there places spans =
+    hub-noted layout mesh x hub fold lawful
+    (over-hub layout mesh x hub there places.0 places.1) spans
 
 section-owned : (layout : Layout) (mesh : Mesh) (x m : ℕ) (stretch : Stretch)
     → IsLawful layout mesh
@@ -348,7 +402,7 @@ section-owned layout mesh x (suc m) stretch lawful o few s k end =
     ∙ ap (λ (c : ℕ). or_marked (owned mesh w x c) (section_marks w stretch (suc m)) s k) one
 
 pub body-owned : (layout : Layout) (mesh : Mesh) (x m : ℕ) (body : Body) → IsLawful layout mesh
-    → x < length layout.shapes → IsBodyOf mesh layout.window (shape_at layout x) body
+    → x < length layout.shapes → IsPlaced mesh layout.window (shape_at layout x) body
     → m < regions_of (is_section_body body) layout.windows → (s k : ℕ)
     → s ≤ layout.windows * layout.window
     → owned mesh layout.window x (m + 1) s k
@@ -359,3 +413,5 @@ body-owned layout mesh x m (SectionBody section) lawful there places few =
 body-owned layout mesh x m (SeamBody seam) lawful there places few =
     let o = over-seam layout mesh x seam.stretch there places in
     owned-seam layout mesh x m o.pipe o.place o.left o.right seam.stretch lawful o.over few
+body-owned layout mesh x m (NodeBody hub) lawful there places few =
+    hub-owned layout mesh x m hub lawful (over-hub layout mesh x hub there places.0 places.1) few

@@ -1,4 +1,6 @@
+mod AtNodes
 mod ByKind
+mod Flags
 mod Handing
 mod Keeping
 mod Parts
