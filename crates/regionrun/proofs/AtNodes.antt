@@ -27,7 +27,8 @@ use Rattle.regionrun.proofs.Spanned.{node-within}
 use Rattle.regionrun.specs.Handed.{HasStation, IsBlockFor}
 use Rattle.regionrun.specs.Lawful.{IsLawful}
 use Rattle.regionrun.specs.Owned.{owned}
-use Rattle.regionrun.specs.Right.{IsNodeOf, end_span, strand_spans}
+use Rattle.regionrun.specs.Places.{IsNodeOf}
+use Rattle.regionrun.specs.Right.{end_span, strand_spans}
 use Rattle.strands.specs.Hubs.{HasInner, HasOuter, IsForWindow, IsHubAt, NotesHub, hub_marks}
 use Rattle.strands.specs.Hubs.{is_passed, spokes_of}
 use Rattle.strands.specs.Marks.{or_marked}

@@ -1,9 +1,10 @@
 pub mod Bodies
 pub mod Engine
+pub mod Gathering
 pub mod Handed
 pub mod Lawful
 pub mod Owned
+pub mod Places
 pub mod Right
 pub mod Stubs
 pub mod Surveys
-pub mod Gathering
