@@ -93,7 +93,8 @@ has_loaded frontier c = has_block frontier.body c
 
 -- all blocks that the next region needs are loaded
 abbrev pub IsFed : Layout → Frontier → Type 0
-IsFed layout frontier = (b c : ℕ) → needs_of (is_section layout frontier.number) frontier.computed ≡ Some b
+IsFed layout frontier = (b c : ℕ)
+    → needs_of (is_section layout frontier.number) frontier.computed ≡ Some b
     → c < frontier.sides → has_loaded frontier c ≡ true
 
 -- the next region of a strand can be computed
