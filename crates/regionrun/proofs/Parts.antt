@@ -9,6 +9,7 @@ use borrow.Rule.Slice.PartMut.{post_of, put_mid, same_len_mid}
 use Rattle.case_model.specs.Meaning.{Meaning}
 use Rattle.regions.specs.declared.shapes.Layout.{Layout}
 use Rattle.regions.specs.Sides.{sides_of}
+use Rattle.strands.proofs.Handing.{before-or-at}
 use Rattle.regionrun.specs.Handed.{HasParts, IsBlockFor, part}
 
 -- a part has as many words as are written over it
@@ -50,9 +51,6 @@ part-before width i c old run below inside =
     part-low width i (take a old) (run ++ post_of a width old) h
     ∙ sym (part-low width i (take a old) (drop a old) h)
     ∙ ap (part width i) (take-append-drop a old)
-
-pub before-or-at : (i j : ℕ) → i < j + 1 → (i < j) ⊎ (i ≡ j)
-before-or-at i j h = grind arith
 
 -- the part for one side more is written
 pub parts-more : (law : Meaning) (layout : Layout) (y b c a k : ℕ) (old run : List ℕ)

@@ -16,7 +16,7 @@ use Rattle.regionrun.specs.Engine.{HaveBlocks, HaveRoom, IsCourse, count_at, han
 use Rattle.regionrun.specs.Engine.{is_even}
 use Rattle.regionrun.specs.Handed.{IsBlock, IsBlockFor, part}
 use Rattle.regionrun.specs.Right.{IsRight, IsSameStrand, IsWanted, has_loaded}
-use Rattle.regionrun.proofs.Parts.{before-or-at}
+use Rattle.strands.proofs.Handing.{before-or-at}
 use Rattle.schedule.specs.LayoutNets.{layout_net}
 use Rattle.schedule.specs.Nets.{IsSameNet, Net}
 

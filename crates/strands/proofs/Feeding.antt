@@ -15,6 +15,7 @@ use Rattle.fronts.specs.Stretches.{AreSamePlaces, IsPut, count_of, kept}
 use Rattle.fronts.specs.declared.stretches.Stretch.{Stretch}
 use Rattle.fronts.proofs.Lining.{is-now, run-before, run-in, where-is}
 use Rattle.fronts.proofs.Raising.{same-spot}
+use Rattle.strands.proofs.Handing.{before-or-at}
 use Rattle.strands.proofs.Marking.{ArePlaces, IsSplit, numbered-line, rows-at, same-line}
 use Rattle.strands.specs.Marks.{start_marks}
 use Rattle.strands.specs.Sections.{IsLine}
@@ -23,9 +24,6 @@ use Rattle.strands.specs.declared.tents.Section.{Section}
 use Rattle.strands.specs.Words.{IsBare, raised}
 
 -- ---- the initial row
-
-before-or-at : (i j : ℕ) → i < j + 1 → (i < j) ⊎ (i ≡ j)
-before-or-at i j h = grind arith
 
 -- the law's start is what the rows have at step 0
 start-is : (law : Meaning) (stretch : Stretch) (x : ℕ)

@@ -1,7 +1,7 @@
 mod Advancing
 mod Fans
 mod Feeding
-mod Handing
+pub mod Handing
 mod Loading
 mod Marking
 mod Nodes
