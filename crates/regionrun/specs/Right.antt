@@ -64,11 +64,6 @@ pub record IsRightAt (law : Meaning) (layout : Layout) (c : ℕ) (frontier : Fro
 abbrev pub IsRight : Meaning → Layout → Frontier → Type 0
 IsRight law layout frontier = IsRightAt law layout frontier.computed frontier
 
--- a strand is right for a layout
-pub record IsRightSome (law : Meaning) (frontier : Frontier) : Type 0 where
-  pub layout : Layout
-  pub right : IsRight law layout frontier
-
 -- these words are the block that the next region of a strand needs of a side
 pub record IsWanted (law : Meaning) (layout : Layout) (frontier : Frontier) (c : ℕ)
     (words : List ℕ) : Type 0 where

@@ -33,7 +33,7 @@ impl Frontier {
     ghost use Rattle.regionrun.specs.Bodies.{FitsWindow, IsBareBody, IsComputed, side_count};
     ghost use Rattle.regionrun.specs.Handed.{IsBlock};
     ghost use Rattle.regionrun.specs.Right.{IsBare, IsReadySome, IsRight, IsRightAt, IsSameStrand};
-    ghost use Rattle.regionrun.specs.Right.{IsWanted, IsWantedSome, has_loaded};
+    ghost use Rattle.regionrun.specs.Right.{IsWanted, IsWantedSome, has_loaded, region_count};
     ghost use Rattle.regions.specs.declared.shapes.Layout.{Layout as LayoutSeen};
     ghost use Rattle.regions.specs.Needs.{needs_of};
     ghost use Rattle.regions.specs.Sides.{is_section};
@@ -44,6 +44,18 @@ impl Frontier {
             result ≡ is_some (needs_of (is_section layout self.now.number) self.now.computed) }
     {
         self.computed != 0 || !self.body.is_section()
+    }
+
+    /// Whether all regions are computed.
+    pub(crate) fn finished(&self) -> bool
+        ensures { (law : Meaning) (layout : LayoutSeen) → IsRight law layout self.now →
+            result ≡ (self.now.computed == region_count layout self.now.number) }
+    {
+        if self.body.is_section() {
+            self.computed == self.windows + 1
+        } else {
+            self.computed == self.windows
+        }
     }
 
     /// Takes in the block that the next region needs of a side.

@@ -21,6 +21,29 @@ pub struct Strand<S> {
 impl<S: EntryStub> Strand<S> {
     ghost use Rattle.regionrun.specs.Stubs.{HasStub};
 
+    /// The strand's number.
+    pub fn number(&self) -> u32
+        ensures { result ≡ self.now.frontier.number }
+    {
+        self.frontier.number
+    }
+
+    /// How many of its regions are computed.
+    pub fn computed(&self) -> u64
+        ensures { result ≡ self.now.frontier.computed }
+    {
+        self.frontier.computed
+    }
+
+    /// Whether all its regions are computed.
+    pub fn finished(&self) -> bool
+        ensures { (law : Meaning) (layout : Layout) → IsRight law layout self.now.frontier →
+            result ≡ (self.now.frontier.computed
+            == region_count layout self.now.frontier.number) }
+    {
+        self.frontier.finished()
+    }
+
     /// Enters the next region.
     pub fn enter<G: Gate<Stub = S>>(&mut self, gate: &G)
         requires room { self.old.frontier.computed < 2 ^ 62 }
@@ -34,5 +57,41 @@ impl<S: EntryStub> Strand<S> {
             Some(stub) => Some(gate.enter(stub)),
             None => None,
         };
+    }
+    /// Takes in the block that the entered region needs of a side.
+    pub fn load<L: Law>(&mut self, law: &L, side: u32, words: &[u64])
+        requires wanted { IsWantedSome (L.meaning law.now) self.old.frontier side words.now }
+        ensures right { (layout : Layout) →
+            IsWanted (L.meaning law.now) layout self.old.frontier side words.now →
+            IsRight (L.meaning law.now) layout self.new.frontier }
+        ensures loaded { (c : ℕ) → c < self.old.frontier.sides →
+            has_loaded self.new.frontier c ≡ (has_loaded self.old.frontier c || (c == side)) }
+        ensures same { IsSameStrand self.old.frontier self.new.frontier
+            × (self.new.frontier.computed ≡ self.old.frontier.computed) }
+        ensures stub { self.new.stub ≡ self.old.stub }
+    {
+        self.frontier.load(law, side as usize, words);
+    }
+
+    /// Computes the entered region, of which all needed blocks are loaded: notes its points, and
+    /// writes its block into `out` where it has one, the parts for the sides one after another.
+    pub fn compute<L: Law>(&mut self, law: &L, out: &mut [u64])
+        requires ready { IsReadySome (L.meaning law.now) self.old.frontier }
+        requires room { length out.old ≡ 4 * self.old.frontier.window * self.old.frontier.sides }
+        ensures right { (layout : Layout) →
+            IsRight (L.meaning law.now) layout self.old.frontier →
+            IsRight (L.meaning law.now) layout self.new.frontier }
+        ensures block { (layout : Layout) →
+            IsRight (L.meaning law.now) layout self.old.frontier →
+            self.old.frontier.computed < self.old.frontier.windows →
+            IsBlock (L.meaning law.now) layout self.old.frontier.number
+            self.old.frontier.computed out.new }
+        ensures past { self.old.frontier.windows ≤ self.old.frontier.computed → out.new ≡ out.old }
+        ensures more { self.new.frontier.computed ≡ self.old.frontier.computed + 1 }
+        ensures bare { IsBare self.new.frontier }
+        ensures same { IsSameStrand self.old.frontier self.new.frontier }
+        ensures stub { self.new.stub ≡ self.old.stub }
+    {
+        self.frontier.compute(law, out);
     }
 }
