@@ -1,5 +1,5 @@
 //! The strand of a node: its state, and a spoke for each pipe end at it.
-ghost use Rattle.std.specs.Prelude.{◌≡◌, ℕ, ◌+◌, ◌-◌, ◌*◌, ◌/◌, ◌^◌, ◌<◌, ◌≤◌, length, IfOk};
+ghost use Rattle.std.specs.Prelude.{◌≡◌, ℕ, ◌+◌, ◌*◌, ◌^◌, ◌<◌, ◌≤◌, length, IfOk};
 ghost use Rattle.std.specs.Prelude.{All, false, slice_index_or, true};
 ghost use Rattle.case_model.specs.Meaning.{IsMeaning, Meaning};
 ghost use Rattle.case_model.specs.Mesh.{IsNumbered, ends_of};
@@ -15,7 +15,7 @@ ghost use Rattle.strands.specs.Hubs.{IsForWindow, IsHubAfter, IsHubAt, IsHubNode
 ghost use Rattle.strands.specs.Hubs.{IsLoaded, IsNewHub, IsSideLoaded, NotesHub, spokes_of};
 ghost use Rattle.strands.specs.Hubs.{start_marks};
 ghost use Rattle.strands.specs.Marks.{Marks, is_only, marked, or_marked};
-ghost use Rattle.strands.specs.Spokes.{IsBeside, IsNewSpoke, IsSpokeAfter, IsSpokeAt, IsSpokeLater};
+ghost use Rattle.strands.specs.Spokes.{IsBeside, IsSpokeAfter, IsSpokeAt, IsSpokeLater};
 ghost use Rattle.strands.specs.Spokes.{NotesSpoke, end_place, ends_marks, spokes_marks};
 ghost use Rattle.strands.specs.Stations.{half};
 ghost use Rattle.strands.specs.declared.spokes.Spoke.{Spoke as SpokeSeen};

@@ -1,15 +1,12 @@
 //! A spoke of a node: the places of one pipe from its end at the node inward.
-ghost use Rattle.std.specs.Prelude.{◌≡◌, ℕ, ◌+◌, ◌-◌, ◌*◌, ◌/◌, ◌^◌, ◌<◌, ◌≤◌, length, not, IfOk};
+ghost use Rattle.std.specs.Prelude.{◌≡◌, ℕ, ◌+◌, ◌-◌, ◌*◌, ◌^◌, ◌<◌, ◌≤◌, length, IfOk};
 ghost use Rattle.std.specs.Prelude.{true, false};
 ghost use Rattle.case_model.specs.Meaning.{IsMeaning, Meaning};
-ghost use Rattle.case_model.specs.Mesh.{IsMesh, IsNumbered, base_of, next_to, reaches};
+ghost use Rattle.case_model.specs.Mesh.{IsNumbered, reaches};
 ghost use Rattle.case_model.specs.Range.{IsPoint};
-ghost use Rattle.case_model.specs.Rows.{row};
-ghost use Rattle.envelope.specs.Cells.{AreInOneSpan};
-ghost use Rattle.envelope.specs.Folds.{IsSameFold, Stands, spans_of};
+ghost use Rattle.envelope.specs.Folds.{IsSameFold, Stands};
 ghost use Rattle.fronts.specs.Fronts.{Holds, Raises, spot};
 ghost use Rattle.fronts.specs.Stretches.{count_of};
-ghost use Rattle.strands.specs.Beside.{inner_side, outer_side};
 ghost use Rattle.strands.specs.Spokes.{IsNewSpoke, IsSameSpoke, IsSpoke, IsSpokeAfter, IsSpokeAt};
 ghost use Rattle.strands.specs.Spokes.{NotesSpoke, end_place, inner_low as low_inside};
 ghost use Rattle.strands.specs.Spokes.{IsBeside, IsSpokeStepped, run_low, spoke_inner, spoke_outer};
