@@ -10,6 +10,7 @@ ghost use Rattle.surge_top.specs.Answer.{answer, are_read, usage};
 ghost use Rattle.surge_top.specs.Outcome.{IsInput, Tells};
 ghost use Rattle.surge_top.specs.Status.{number_of, IsAnswered};
 
+use regionrun::OpenGate;
 use std::alloc::{AllocError, Global};
 use std::process::ExitCode;
 use std::rt::Env;
@@ -54,7 +55,7 @@ fn run<R: AllocGlobal, S: Source, K: Sink>(
         ⊎ ((result ≡ Status.Memory) ⊎ IsAnswered result) }
 {
     match lend(rt.alloc(), words) {
-        Ok(words) => surge_plain(rt, &words, src, out),
+        Ok(words) => surge_plain(rt, &words, src, out, &mut OpenGate),
         Err(AllocError) => Status::Memory,
     }
 }

@@ -1,53 +1,91 @@
-//! What `rounds` does with an accepted case: it computes whole rows on one thread.
-ghost use Rattle.std.specs.Prelude.{[], ◌∷◌};
+//! What `rounds` does with an accepted case: it computes the regions of all strands on one thread.
+ghost use Rattle.std.specs.Prelude.{◌≤◌, [], ◌∷◌, IfOk};
 ghost use Rattle.case_model.specs.Accepted.{IsAccepted};
 ghost use Rattle.case_model.specs.FirstFault.{first_fault};
 ghost use Rattle.envelope.specs.Folds.{IsFoldOf, Stands};
-ghost use Rattle.envelope.specs.Notings.{nothing};
-ghost use Rattle.envelope.specs.RowFolds.{probe_numbers};
+ghost use Rattle.envelope.specs.RowFolds.{probe_numbers as numbers_of};
+ghost use Rattle.envelope.specs.Rows.{rows_noted};
 ghost use Rattle.scheme.specs.Laws.{meaning_of};
 ghost use Rattle.surge_top.specs.Answer.{computed};
 ghost use Rattle.surge_top.specs.Outcome.{HasAnswered};
 
-use crate::folding::{fold_over, write_rows};
+use crate::folding::{fold_over, probe_numbers, write_rows};
 use crate::status::Status;
 use crate::top::ended;
 use case_model::{Case, Mesh};
-use envelope::Fold;
+use envelope::{Fold, folds_tell_rows};
+use regionrun::{Gate, Survey, compute};
+use regions::{WIDEST_WINDOW, layout};
 use report::{sizes, write_range};
-use row_steps::compute;
 use scheme::Physics;
 use std::alloc::{AllocError, Global};
 use surge_io::Sink;
 
-/// Writes the report of an accepted case, or its first fault.
-pub(crate) fn rounds<K: Sink>(alloc: Global, case: &Case, mesh: &Mesh, out: &mut K) -> Status
+/// Writes the report of an accepted case, or its first fault, computed over windows of at most
+/// `wish` steps.
+pub(crate) fn rounds<K: Sink, G: Gate>(
+    alloc: Global,
+    case: &Case,
+    mesh: &Mesh,
+    wish: u64,
+    out: &mut K,
+    gate: &mut G,
+) -> Status
     requires accepted { IsAccepted case.now mesh.now }
+    requires some { 1 ≤ wish }
+    requires few { wish ≤ WIDEST_WINDOW }
     ensures { let fault = first_fault (meaning_of case.now mesh.now) case.now.steps in
         HasAnswered K.held K.faults result out.old out.new (computed case.now mesh.now fault) }
 {
-    match fold_over(alloc, case, mesh) {
-        Ok(mut fold) => stepped(alloc, case, mesh, &mut fold, out),
+    match fold_rows(alloc, case, mesh, wish, gate) {
+        Ok(fold) => report(case, mesh, &fold, out),
         Err(AllocError) => Status::Memory,
     }
 }
 
-/// Computes the rows of an accepted case into a fold, and writes their report or the first fault.
-fn stepped<K: Sink>(alloc: Global, case: &Case, mesh: &Mesh, fold: &mut Fold, out: &mut K) -> Status
+// A fold over all places of an accepted case that was told every row. The error is want of memory.
+fn fold_rows<G: Gate>(
+    alloc: Global,
+    case: &Case,
+    mesh: &Mesh,
+    wish: u64,
+    gate: &mut G,
+) -> Result<Fold, AllocError>
     requires accepted { IsAccepted case.now mesh.now }
-    requires given { let probes = probe_numbers mesh.now case.now in
-        IsFoldOf ((0, mesh.now.places) ∷ []) probes case.now.steps case.now.every fold.old }
-    requires fresh { Stands fold.old nothing }
+    requires some { 1 ≤ wish }
+    requires few { wish ≤ WIDEST_WINDOW }
+    ensures given { let probes = numbers_of mesh.now case.now in IfOk result (λ fold.
+        IsFoldOf ((0, mesh.now.places) ∷ []) probes case.now.steps case.now.every fold) }
+    ensures told { IfOk result (λ fold. Stands fold (rows_noted (meaning_of case.now mesh.now))) }
+{
+    sizes(case, mesh);
+    let law = Physics::over(case, mesh);
+    let layout = layout(alloc, case, mesh, wish)?;
+    let probes = probe_numbers(alloc, case, mesh)?;
+    let mut fold = fold_over(alloc, case, mesh, &probes)?;
+    let survey = Survey {
+        case,
+        mesh,
+        layout: &layout,
+        probes: &probes,
+    };
+    compute(alloc, &law, &survey, gate, &mut fold)?;
+    Ok(fold)
+}
+
+// Writes the report of a fold that was told every row of an accepted case, or its first fault.
+fn report<K: Sink>(case: &Case, mesh: &Mesh, fold: &Fold, out: &mut K) -> Status
+    requires accepted { IsAccepted case.now mesh.now }
+    requires given { let probes = numbers_of mesh.now case.now in
+        IsFoldOf ((0, mesh.now.places) ∷ []) probes case.now.steps case.now.every fold.now }
+    requires told { Stands fold.now (rows_noted (meaning_of case.now mesh.now)) }
     ensures { let fault = first_fault (meaning_of case.now mesh.now) case.now.steps in
         HasAnswered K.held K.faults result out.old out.new (computed case.now mesh.now fault) }
 {
     sizes(case, mesh);
-    let law = Physics::over(case, mesh);
-    match compute(alloc, &law, mesh, fold) {
-        Ok(Some((step, place))) => {
-            ended(write_range(case, mesh, step, place, out), Status::Range)
-        }
-        Ok(None) => ended(write_rows(case, mesh, fold, out), Status::Done),
-        Err(AllocError) => Status::Memory,
+    folds_tell_rows();
+    match fold.fault() {
+        Some((step, place)) => ended(write_range(case, mesh, step, place, out), Status::Range),
+        None => ended(write_rows(case, mesh, fold, out), Status::Done),
     }
 }

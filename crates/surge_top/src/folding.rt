@@ -21,20 +21,29 @@ use surge_io::{Failed, Sink};
 
 /// A fold over all places of an accepted case, with its probes, of which nothing is noted. The
 /// error is want of memory.
-pub(crate) fn fold_over(alloc: Global, case: &Case, mesh: &Mesh) -> Result<Fold, AllocError>
+pub(crate) fn fold_over(
+    alloc: Global,
+    case: &Case,
+    mesh: &Mesh,
+    probes: &[u64],
+) -> Result<Fold, AllocError>
     requires accepted { IsAccepted case.now mesh.now }
+    requires probes { probes.now ≡ numbers_of mesh.now case.now }
     ensures given { let probes = numbers_of mesh.now case.now in IfOk result (λ fold.
         IsFoldOf ((0, mesh.now.places) ∷ []) probes case.now.steps case.now.every fold) }
     ensures fresh { IfOk result (λ fold. Stands fold nothing) }
 {
     sizes(case, mesh);
     numbers_tell_places();
-    let probes = probe_numbers(alloc, case, mesh)?;
-    Fold::make(alloc, &[(0, mesh.places)], &probes, case.steps, case.every)
+    Fold::make(alloc, &[(0, mesh.places)], probes, case.steps, case.every)
 }
 
-// The place numbers of the probes, in file order.
-fn probe_numbers(alloc: Global, case: &Case, mesh: &Mesh) -> Result<Vec<u64>, AllocError>
+/// The place numbers of the probes, in file order. The error is want of memory.
+pub(crate) fn probe_numbers(
+    alloc: Global,
+    case: &Case,
+    mesh: &Mesh,
+) -> Result<Vec<u64>, AllocError>
     requires accepted { IsAccepted case.now mesh.now }
     requires on { All (λ probe. IsOn mesh.now probe.at) case.now.probes }
     ensures { IfOk result (λ numbers. numbers.items ≡ numbers_of mesh.now case.now) }

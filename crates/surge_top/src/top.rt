@@ -17,22 +17,24 @@ use case_model::{Case, CaseFault, Mesh};
 use case_writing::write_upgraded;
 use command_words::{Command, Job, WordsFault, read_words};
 use netfile::{MOST_BYTES, read_case};
+use regionrun::Gate;
 use report::{write_accepted, write_refusal, write_usage};
 use std::alloc::Global;
 use surge_io::{Failed, ReadFault, Sink, Source, whole};
 
 /// What the program does: judges its words, reads a case text from the source, and writes its
-/// answer to the sink.
+/// answer to the sink. Strands pass the gate each time they enter a region.
 ///
 /// The answer is that of the definitions for these words and for the bytes that were taken from the
 /// source, whatever the source and the sink are and do: all bytes up to the source's end, or one
 /// past the limit. A read fault comes only where the source's count of faults rose, a write fault
 /// only where the sink's did; want of memory is free, and comes before the first byte is written.
-pub fn surge_plain<R: AllocGlobal, S: Source, K: Sink>(
+pub fn surge_plain<R: AllocGlobal, S: Source, K: Sink, G: Gate>(
     rt: &R,
     words: &[&str],
     src: &mut S,
     out: &mut K,
+    gate: &mut G,
 ) -> Status
     // Words that have the input read: the answer is that to the bytes that were taken.
     ensures answer { let texts = map (λ w. w.now) words.now in
@@ -67,7 +69,7 @@ pub fn surge_plain<R: AllocGlobal, S: Source, K: Sink>(
         ⊎ ((result ≡ Status.Memory) ⊎ IsAnswered result) }
 {
     match read_words(rt.alloc(), words) {
-        Ok(job) if reads_input(job.command) => answer_input(rt.alloc(), job, src, out),
+        Ok(job) if reads_input(job.command) => answer_input(rt.alloc(), job, src, out, gate),
         Ok(_) => ended(write_usage(out), Status::Words),
         Err(WordsFault::Words) => ended(write_usage(out), Status::Words),
         Err(WordsFault::Memory) => Status::Memory,
@@ -85,7 +87,13 @@ fn reads_input(command: Command) -> bool
 }
 
 // Writes the answer of a job to what is taken from the source.
-fn answer_input<S: Source, K: Sink>(alloc: Global, job: Job, src: &mut S, out: &mut K) -> Status
+fn answer_input<S: Source, K: Sink, G: Gate>(
+    alloc: Global,
+    job: Job,
+    src: &mut S,
+    out: &mut K,
+    gate: &mut G,
+) -> Status
     requires { IsJob job }
     ensures answer { (result ≢ Status.ReadFault) → (result ≢ Status.Memory) →
         (bytes : Items ℕ) × IsInput S.gives S.left src.old src.new bytes
@@ -101,7 +109,7 @@ fn answer_input<S: Source, K: Sink>(alloc: Global, job: Job, src: &mut S, out: &
     ensures write_later { K.faults out.old ≤ K.faults out.new }
 {
     match whole(alloc, src, MOST_BYTES) {
-        Ok(bytes) => answer_text(alloc, job, &bytes, out),
+        Ok(bytes) => answer_text(alloc, job, &bytes, out, gate),
         Err(ReadFault::Memory) => Status::Memory,
         Err(ReadFault::Failed) => Status::ReadFault,
     }
@@ -118,13 +126,19 @@ pub(crate) fn ended(written: Result<(), Failed>, done: Status) -> Status
 }
 
 // Writes the answer of a job to a text of any length.
-fn answer_text<K: Sink>(alloc: Global, job: Job, bytes: &[u8], out: &mut K) -> Status
+fn answer_text<K: Sink, G: Gate>(
+    alloc: Global,
+    job: Job,
+    bytes: &[u8],
+    out: &mut K,
+    gate: &mut G,
+) -> Status
     requires { IsJob job }
     ensures { HasAnswered K.held K.faults result out.old out.new
         (answer_to job (verdict bytes.now)) }
 {
     match read_case(alloc, bytes) {
-        Ok((case, mesh)) => answer_case(alloc, job, &case, &mesh, out),
+        Ok((case, mesh)) => answer_case(alloc, job, &case, &mesh, out, gate),
         Err(CaseFault::Refused { number, line }) => ended(
             write_refusal(number, line as u64, out),
             Status::Refused,
@@ -134,7 +148,14 @@ fn answer_text<K: Sink>(alloc: Global, job: Job, bytes: &[u8], out: &mut K) -> S
 }
 
 // Writes the answer of a job to an accepted case.
-fn answer_case<K: Sink>(alloc: Global, job: Job, case: &Case, mesh: &Mesh, out: &mut K) -> Status
+fn answer_case<K: Sink, G: Gate>(
+    alloc: Global,
+    job: Job,
+    case: &Case,
+    mesh: &Mesh,
+    out: &mut K,
+    gate: &mut G,
+) -> Status
     requires job { IsJob job }
     requires accepted { IsAccepted case.now mesh.now }
     ensures { HasAnswered K.held K.faults result out.old out.new (answer_of job case.now mesh.now) }
@@ -142,7 +163,7 @@ fn answer_case<K: Sink>(alloc: Global, job: Job, case: &Case, mesh: &Mesh, out: 
     match job.command {
         Command::Check => ended(write_accepted(out), Status::Done),
         Command::Mesh => cut(alloc, case, mesh, job.window, out),
-        Command::Rounds => rounds(alloc, case, mesh, out),
+        Command::Rounds => rounds(alloc, case, mesh, job.window, out, gate),
         Command::Run | Command::Drill => ended(write_usage(out), Status::Words),
         Command::Upgrade => ended(write_upgraded(case, out), Status::Done),
     }

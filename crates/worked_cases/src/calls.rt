@@ -1,6 +1,7 @@
 //! The calls that rows are about.
 use case_lines::{fields_of, judge_line};
 use netfile::{read_case, write_case};
+use regionrun::OpenGate;
 use std::alloc::{AllocError, Global};
 use surge_io::{MemorySink, MemorySource};
 use surge_top::{Status, surge_plain};
@@ -25,7 +26,7 @@ pub(crate) fn answer<R: AllocGlobal>(
     let writes = outside.writes.as_slice().to_vec(alloc)?;
     let mut source = MemorySource::over(text.to_vec(alloc)?, 8, reads);
     let mut sink = MemorySink::make(alloc, outside.room, writes)?;
-    let status = surge_plain(rt, words, &mut source, &mut sink);
+    let status = surge_plain(rt, words, &mut source, &mut sink, &mut OpenGate);
     Ok((status, sink))
 }
 
