@@ -15,7 +15,7 @@ use Rattle.fronts.specs.Stretches.{AreSamePlaces, IsPut, count_of, kept}
 use Rattle.fronts.specs.declared.stretches.Stretch.{Stretch}
 use Rattle.fronts.proofs.Lining.{is-now, run-before, run-in, where-is}
 use Rattle.fronts.proofs.Raising.{same-spot}
-use Rattle.strands.proofs.Marking.{ArePlaces, IsSplit, rows-at, same-line}
+use Rattle.strands.proofs.Marking.{ArePlaces, IsSplit, numbered-line, rows-at, same-line}
 use Rattle.strands.specs.Marks.{start_marks}
 use Rattle.strands.specs.Sections.{IsLine}
 use Rattle.strands.specs.Tents.{IsSectionAt, fed, has_block}
@@ -100,7 +100,8 @@ split-start law stretch low high places line inside held s k =
                 run-in stretch 0 low high s k e lo hi
                     ∙ ap (λ y. Some (OfPoint y))
                     (held (k - stretch.number) (omega arith) (omega arith))
-                    ∙ sym (rows-at law stretch 0 k places line (omega arith) (omega arith))
+                    ∙ sym (rows-at law stretch 0 k places (numbered-line law stretch line)
+                    (omega arith) (omega arith))
                     ∙ ap (λ t. rows_noted law t k) (sym e),
               )
         ]
