@@ -7,6 +7,7 @@ mod frontiers;
 mod gates;
 mod gathering;
 mod lawful;
+mod making;
 mod one_strand;
 mod ranges;
 mod serial;
