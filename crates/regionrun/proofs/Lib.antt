@@ -1,4 +1,5 @@
 mod ByKind
+mod Flags
 mod Handing
 mod Keeping
 mod Parts
@@ -13,8 +14,8 @@ pub mod Nodes
 pub mod Owning
 pub mod Reached
 pub mod Seams
-pub mod Spans
 pub mod Spanned
+pub mod Spans
 pub mod Spots
 pub mod Starts
 pub mod Tents

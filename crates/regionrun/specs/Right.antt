@@ -17,7 +17,7 @@ use Rattle.regions.specs.Needs.{needs_of}
 use Rattle.regions.specs.Sides.{back_of, is_section, shape_at, side_of, sides_of}
 use Rattle.regionrun.specs.Bodies.{IsBodyAt, has_block}
 use Rattle.regionrun.specs.declared.bodies.Body.{Body}
-use Rattle.regionrun.specs.declared.bodies.Body.TheVariants.{OfSeam as SeamBody, OfSection as SectionBody}
+use Rattle.regionrun.specs.declared.bodies.Body.TheVariants.{OfNode as NodeBody, OfSeam as SeamBody, OfSection as SectionBody}
 use Rattle.regionrun.specs.declared.frontiers.Frontier.{Frontier}
 use Rattle.regionrun.specs.Handed.{IsBlockFor}
 use Rattle.regionrun.specs.Owned.{owned}
@@ -57,10 +57,17 @@ IsSeamStretch mesh w (OfSeam pipe place left right) stretch =
     IsStretchOf pipe (place - half w) (base_of mesh pipe + place - half w) (2 * half w + 1) stretch
 IsSeamStretch mesh w (OfSection pipe place count left right) stretch = ⊥
 
+-- the shape is that of a node
+abbrev pub IsNodeOf : Shape → ℕ → Type 0
+IsNodeOf (OfNode node) k = k ≡ node
+IsNodeOf (OfSeam pipe place left right) k = ⊥
+IsNodeOf (OfSection pipe place count left right) k = ⊥
+
 -- the body has the places of a strand of this shape
 abbrev pub IsBodyOf : Mesh → ℕ → Shape → Body → Type 0
 IsBodyOf mesh w shape (SectionBody section) = IsSectionStretch mesh shape section.stretch
 IsBodyOf mesh w shape (SeamBody seam) = IsSeamStretch mesh w shape seam.stretch
+IsBodyOf mesh w shape (NodeBody hub) = IsNodeOf shape hub.node
 
 -- of so many regions of strand x the body has the points that its next region and its blocks are
 -- made of

@@ -14,13 +14,14 @@ ghost use Rattle.strands.specs.Marks.{Marks, marked, or_marked};
 
 use case_model::Law;
 use envelope::Fold;
-use strands::{Seam, Section};
+use strands::{Hub, Seam, Section};
 
 /// The places of a section, a seam or a node.
 #[derive(Drop, Debug)]
 pub(crate) enum Body {
     OfSection(Section),
     OfSeam(Seam),
+    OfNode(Hub),
 }
 
 impl Body {
@@ -61,6 +62,7 @@ impl Body {
         match self {
             Body::OfSection(section) => section.load(side == 0, window, start, words),
             Body::OfSeam(seam) => seam.load(side == 1, window, start, words),
+            Body::OfNode(hub) => hub.load(side, window, start, words),
         }
     }
 
@@ -85,6 +87,7 @@ impl Body {
         match self {
             Body::OfSection(section) => advance_section(law, section, window, region, fold),
             Body::OfSeam(seam) => seam.compute(law, window, start, fold),
+            Body::OfNode(hub) => hub.compute(law, window, start, fold),
         }
     }
 
@@ -102,6 +105,7 @@ impl Body {
         match self {
             Body::OfSection(section) => section.write(side == 0, window, start, out),
             Body::OfSeam(seam) => seam.write(side == 1, window, start, out),
+            Body::OfNode(hub) => hub.write(side, window, start, out),
         }
     }
 }
