@@ -2,6 +2,7 @@ mod ByKind
 mod Flags
 mod Handing
 mod Keeping
+mod Making
 mod Parts
 mod Sizing
 mod Stepping

@@ -134,7 +134,7 @@ span-low : (mesh : Mesh) (w p : ℕ) (last : Bool) → IsSpanned mesh w p
 span-low mesh w p true s = let l = s.long in omega arith
 span-low mesh w p false s = omega arith
 
-span-high : (mesh : Mesh) (w p : ℕ) (last : Bool) → IsSpanned mesh w p
+pub span-high : (mesh : Mesh) (w p : ℕ) (last : Bool) → IsSpanned mesh w p
     → (end_span mesh w (record { pipe = p; at_last = last })).0
     + (end_span mesh w (record { pipe = p; at_last = last })).1
     ≤ base_of mesh p + reaches mesh p + 1
@@ -163,7 +163,7 @@ spans-apart mesh w a b numbered some s t h = elim h [
 abbrev node_spans : Mesh → ℕ → ℕ → List (ℕ × ℕ)
 node_spans mesh w node = (node, 1) ∷ map (end_span mesh w) (ends_of mesh node)
 
-span-is : (mesh : Mesh) (w node j : ℕ) → j < length (ends_of mesh node)
+pub span-is : (mesh : Mesh) (w node j : ℕ) → j < length (ends_of mesh node)
     → get_or (map (end_span mesh w) (ends_of mesh node)) j no_span
     ≡ end_span mesh w (end_at mesh node j)
 span-is mesh w node j h = get_or-map (end_span mesh w) (ends_of mesh node) j no_end no_span h

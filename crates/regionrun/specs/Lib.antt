@@ -2,6 +2,7 @@ pub mod Bodies
 pub mod Engine
 pub mod Handed
 pub mod Lawful
+pub mod Making
 pub mod Owned
 pub mod Right
 pub mod Stubs
