@@ -12,8 +12,8 @@ use Rattle.envelope.specs.declared.folds.Fold.{Fold}
 use Rattle.regions.specs.Needs.{needs_of}
 use Rattle.regions.specs.Sides.{is_section, shape_at}
 use Rattle.regions.specs.declared.shapes.Layout.{Layout}
-use Rattle.regionrun.proofs.ByKind.{body-fits, body-incoming, body-kind, body-later, body-noted, body-outgoing}
-use Rattle.regionrun.proofs.ByKind.{body-open, body-owned, body-shut, body-sides, same-body}
+use Rattle.regionrun.proofs.ByKind.{IsPlaced, body-fits, body-incoming, body-kind, body-later, body-noted, body-outgoing}
+use Rattle.regionrun.proofs.ByKind.{body-open, body-owned, body-placed, body-shut, body-sides, same-body}
 use Rattle.regionrun.proofs.ByKind.{same-kind}
 use Rattle.regionrun.specs.Bodies.{FitsWindow, HasIncoming, HasOutgoing, IsComputed, IsFedBody, IsNoting, IsOpen}
 use Rattle.regionrun.specs.Bodies.{IsSameBody, body_marks, is_section_body, side_count}
@@ -27,27 +27,36 @@ use Rattle.regionrun.specs.declared.frontiers.Frontier.{Frontier}
 use Rattle.schedule.specs.Nets.{regions_of}
 use Rattle.strands.specs.Marks.{Marks, marked, or_marked}
 
+-- the places of what a strand keeps
+right-placed : (law : Meaning) (layout : Layout) (c : ℕ) (frontier : Frontier)
+    → IsRightAt law layout c frontier
+    → IsPlaced law.mesh layout.window (shape_at layout frontier.number) frontier.body
+right-placed law layout c frontier right =
+    body-placed law layout.window c (shape_at layout frontier.number) frontier.body
+    right.keeps.places right.keeps.points
+
 -- ---- sides
 
 pub right-sides : (law : Meaning) (layout : Layout) (c : ℕ) (frontier : Frontier)
     → IsRightAt law layout c frontier → frontier.sides ≡ side_count frontier.body
 right-sides law layout c frontier right =
     right.sides_are ∙ body-sides layout law.mesh frontier.number frontier.body right.there
-    right.keeps.places
+    (right-placed law layout c frontier right)
 
 pub right-fits : (law : Meaning) (layout : Layout) (c : ℕ) (frontier : Frontier)
     → IsLawful layout law.mesh
     → IsRightAt law layout c frontier → FitsWindow frontier.window frontier.body
 right-fits law layout c frontier lawful right =
     subst (λ (w : ℕ). FitsWindow w frontier.body) (sym right.window_is)
-    (body-fits layout law.mesh frontier.number frontier.body lawful right.there right.keeps.places)
+    (body-fits layout law.mesh frontier.number frontier.body lawful right.there
+    (right-placed law layout c frontier right))
 
 pub wanted-side : (law : Meaning) (layout : Layout) (frontier : Frontier) (side : ℕ)
     (words : List ℕ) → IsWanted law layout frontier side words → side < side_count frontier.body
 wanted-side law layout frontier side words wanted =
     subst (λ (n : ℕ). side < n)
     (body-sides layout law.mesh frontier.number frontier.body wanted.right.there
-    wanted.right.keeps.places) wanted.side
+    (right-placed law layout frontier.computed frontier wanted.right)) wanted.side
 
 -- ---- a block is taken in
 
@@ -67,7 +76,7 @@ taken law layout old new side words lawful wanted same opens =
     let right = wanted.right in
     let x = old.number in
     let m = old.computed in
-    let places = right.keeps.places in
+    let places = right-placed law layout m old right in
     let need : needs_of (is_section_body old.body) m ≡ Some wanted.block =
     subst (λ (k : Bool). needs_of k m ≡ Some wanted.block)
     (body-kind layout law.mesh x old.body right.there places) wanted.needed in
@@ -81,7 +90,8 @@ taken law layout old new side words lawful wanted same opens =
     (body-incoming law layout x m wanted.block side old.body words lawful right.there places
     (wanted-side law layout old side words wanted) need wanted.handed) in
     record {
-      places = same-body law.mesh layout.window (shape_at layout x) old.body new same places;
+      places = same-body law.mesh layout.window (shape_at layout x) old.body new same
+          right.keeps.places;
       points = body-shut law layout.window m new (λ e. some (sym (same-kind old.body new same) ∙ e))
           (subst (λ (w : ℕ). IsOpen law w m new) right.window_is (opens open_old has));
     }
@@ -100,7 +110,7 @@ ready-fed law frontier ready = λ side some here.
     let right = ready.right in
     let layout = ready.layout in
     let kind = body-kind layout law.mesh frontier.number frontier.body right.there
-    right.keeps.places in
+    (right-placed law layout frontier.computed frontier right) in
     let need = some-needed (is_section layout frontier.number) frontier.computed
     (λ e. some (sym kind ∙ e)) in
     ready.fed need.0 side need.1
@@ -113,7 +123,7 @@ pub right-noted : (law : Meaning) (layout : Layout) (c : ℕ) (frontier : Fronti
 right-noted law layout c frontier lawful right =
     subst (λ (w : ℕ). IsNoting w frontier.fold frontier.body) (sym right.window_is)
     (body-noted layout law.mesh frontier.number frontier.body frontier.fold lawful right.there
-    right.keeps.places right.spans)
+    (right-placed law layout c frontier right) right.spans)
 
 -- how many regions there are, by the kind of the body
 right-count : (law : Meaning) (layout : Layout) (c : ℕ) (frontier : Frontier)
@@ -122,7 +132,8 @@ right-count : (law : Meaning) (layout : Layout) (c : ℕ) (frontier : Frontier)
     ≡ regions_of (is_section_body frontier.body) frontier.windows
 right-count law layout c frontier right =
     ap (λ (k : Bool). regions_of k layout.windows)
-    (body-kind layout law.mesh frontier.number frontier.body right.there right.keeps.places)
+    (body-kind layout law.mesh frontier.number frontier.body right.there
+    (right-placed law layout c frontier right))
     ∙ ap (regions_of (is_section_body frontier.body)) (sym right.windows_are)
 
 pub ready-below : (law : Meaning) (frontier : Frontier) → IsReadySome law frontier
@@ -193,7 +204,8 @@ next-stands law layout old body fold lawful ready equal right next =
     (ready-below law old ready) in
     equal (marked law (or_marked was marks)) (marked law (owned law.mesh w x (m + 1)))
     (λ s k l i. same-marked law (or_marked was marks) (owned law.mesh w x (m + 1)) s k
-    (sym (body-owned layout law.mesh x m old.body lawful right.there right.keeps.places few s k
+    (sym (body-owned layout law.mesh x m old.body lawful right.there
+    (right-placed law layout m old right) few s k
     (let end = next-steps law layout old body fold right next in omega arith))))
     (subst (λ (z : ℕ). Stands fold (marked law (or_marked was (body_marks z old.body m))))
     right.window_is (next.stands was right.stands))
@@ -215,5 +227,5 @@ pub right-outgoing : (law : Meaning) (layout : Layout) (c m side : ℕ) (frontie
     → IsBlockFor law layout frontier.number side m words
 right-outgoing law layout c m side frontier words lawful right here size has =
     body-outgoing law layout frontier.number m side frontier.body words lawful right.there
-    right.keeps.places here (size ∙ ap (λ (w : ℕ). 4 * w) right.window_is)
+    (right-placed law layout c frontier right) here (size ∙ ap (λ (w : ℕ). 4 * w) right.window_is)
     (subst (λ (w : ℕ). HasOutgoing law w m side frontier.body words) right.window_is has)

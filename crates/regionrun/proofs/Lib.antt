@@ -1,8 +1,10 @@
+mod AtNodes
 mod ByKind
 mod Flags
 mod Handing
 mod Keeping
-mod Making
+mod Made
+mod OnPipes
 mod Parts
 mod Sizing
 mod Stepping

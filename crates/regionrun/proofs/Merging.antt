@@ -1,16 +1,13 @@
 -- The folds of strands that are done, gathered one after another.
-use Rattle.std.proofs.Common.{◌≡◌, ℕ, suc, ◌+◌, ◌-◌, ◌*◌, ◌/◌, ◌<◌, ◌≤◌, inl, inr}
-use Rattle.std.proofs.Common.{Bool, true, false, List, [], ◌∷◌, length, map, get_or, ap, sym}
-use Rattle.std.proofs.Common.{Some, None, cond, subst, refl, ◌∙◌, arith}
+use Rattle.std.proofs.Common.{◌≡◌, ℕ, ◌+◌, ◌*◌, ◌<◌, ◌≤◌}
+use Rattle.std.proofs.Common.{Bool, true, false, List, [], ◌∷◌, length, ap, sym}
+use Rattle.std.proofs.Common.{get_or, Some, None, cond, subst, refl, ◌∙◌, arith}
 use Rattle.std.specs.Prelude.{◌&&◌, ◌||◌}
 use Rattle.std.specs.List.{filter}
 use Rattle.std.proofs.lemmas.Bool.{lt-ltb}
-use Rattle.std.proofs.lemmas.List.{get_or-map, length-map}
 use Rattle.case_model.specs.declared.meshes.Mesh.{Mesh}
-use Rattle.case_model.specs.Joints.{no_end}
 use Rattle.case_model.specs.Meaning.{Meaning}
-use Rattle.case_model.specs.Mesh.{ends_of}
-use Rattle.envelope.specs.Cells.{is_within, no_span}
+use Rattle.envelope.specs.Cells.{is_within}
 use Rattle.case_model.specs.PlaceNumbers.{place_at}
 use Rattle.case_model.specs.Rows.{row}
 use Rattle.envelope.specs.Extremes.{first_of}
@@ -18,70 +15,35 @@ use Rattle.envelope.specs.Folds.{IsSameFold, Stands, spans_of, steps_of}
 use Rattle.envelope.specs.Notings.{Agree, IsInside, Noted, Noting, nothing, union}
 use Rattle.envelope.specs.Rows.{noting_at, rows_noted}
 use Rattle.envelope.specs.declared.folds.Fold.{Fold}
-use Rattle.envelope.proofs.CellLaws.{below-first, within-span}
+use Rattle.envelope.proofs.CellLaws.{below-first}
 use Rattle.regions.specs.declared.shapes.Layout.{Layout}
 use Rattle.regions.specs.declared.shapes.Shape.{Shape}
 use Rattle.regions.specs.declared.shapes.Shape.TheVariants.{OfNode, OfSeam, OfSection}
-use Rattle.regions.specs.Sides.{end_at, shape_at}
+use Rattle.regions.specs.Sides.{shape_at}
 use Rattle.strands.specs.Marks.{Marks, marked, or_marked}
 use Rattle.regionrun.specs.declared.frontiers.Frontier.{Frontier}
 use Rattle.regionrun.specs.declared.one_strand.Strand.{Strand}
-use Rattle.regionrun.specs.Gathering.{IsDone, IsPart}
+use Rattle.regionrun.specs.Gathering.{AreDone, AreParts, IsDone, IsPart}
+use Rattle.regionrun.specs.Engine.{AreAt, AreSameFolds}
+use Rattle.regions.specs.LaidOut.{IsLaidOut}
+use Rattle.regionrun.proofs.Spans.{part-later}
 use Rattle.regionrun.specs.Lawful.{IsLawful}
-use Rattle.regionrun.specs.Owned.{IsNear, IsReached, end_place, owned, owned_below}
-use Rattle.regionrun.specs.Right.{IsRight, IsRightAt, end_span, region_count, strand_spans}
+use Rattle.regionrun.specs.Owned.{IsReached, owned, owned_below}
+use Rattle.regionrun.specs.Right.{IsRight, IsRightAt, region_count, strand_spans}
 use Rattle.regionrun.proofs.Gathered.{owned_below-all, owned_below-more, owned_below-none}
 use Rattle.regionrun.proofs.Reached.{owned-reached}
+use Rattle.regionrun.proofs.Spanned.{node-within, seam-within, section-within}
 
 -- ---- where a strand's places lie, its fold has spans
-
-near-end : (mesh : Mesh) (w p : ℕ) (last : Bool) (k : ℕ)
-    → IsNear mesh p (end_place mesh (record { pipe = p; at_last = last })) ((w - 1) / 2) k
-    → ((end_span mesh w (record { pipe = p; at_last = last })).0 ≤ k)
-    × (k < (end_span mesh w (record { pipe = p; at_last = last })).0
-    + (end_span mesh w (record { pipe = p; at_last = last })).1)
-near-end mesh w p true k n =
-    let a = n.low in let b = n.high in let c = n.near in (omega arith, omega arith)
-near-end mesh w p false k n =
-    let a = n.low in let b = n.high in let c = n.near in (omega arith, omega arith)
-
-one-within : (first count k : ℕ) → first ≤ k → k < first + count
-    → is_within ((first, count) ∷ []) k ≡ true
-one-within first count k low high =
-    within-span ((first, count) ∷ []) 0 k (omega arith) low high
-
-abbrev HasIt : ℕ → ℕ × ℕ → Type 0
-HasIt k span = (span.0 ≤ k) × (k < span.0 + span.1)
-
-end-within : (mesh : Mesh) (w node j k : ℕ) → j < length (ends_of mesh node)
-    → HasIt k (end_span mesh w (end_at mesh node j))
-    → is_within ((node, 1) ∷ map (end_span mesh w) (ends_of mesh node)) k ≡ true
-end-within mesh w node j k h has =
-    let spans = (node, 1) ∷ map (end_span mesh w) (ends_of mesh node) in
-    let e : get_or (map (end_span mesh w) (ends_of mesh node)) j no_span
-    ≡ end_span mesh w (end_at mesh node j) =
-    get_or-map (end_span mesh w) (ends_of mesh node) j no_end no_span h in
-    let at = subst (HasIt k) (sym e) has in
-    within-span spans (suc j) k (omega (arith, length-map (ends_of mesh node) (end_span mesh w)))
-    at.0 at.1
 
 reached-within : (mesh : Mesh) (w : ℕ) (shape : Shape) (k : ℕ) → IsReached mesh w shape k
     → is_within (strand_spans mesh w shape) k ≡ true
 unfolding strand_spans
-reached-within mesh w (OfNode node) k (inl e) =
-    within-span ((node, 1) ∷ map (end_span mesh w) (ends_of mesh node)) 0 k (omega arith)
-    (omega arith) (omega arith)
-reached-within mesh w (OfNode node) k (inr r) =
-    let e = end_at mesh node r.0 in
-    end-within mesh w node r.0 k r.1 (near-end mesh w e.pipe e.at_last k r.2)
-reached-within mesh w (OfSeam pipe place left right) k n =
-    let a = n.low in
-    let b = n.near in
-    one-within _ _ k (omega arith) (omega arith)
-reached-within mesh w (OfSection pipe place count left right) k n =
-    let a = n.0 in
-    let b = n.1 in
-    one-within _ _ k (omega arith) (omega arith)
+reached-within mesh w (OfNode node) k r = node-within mesh w node k r
+reached-within mesh w (OfSeam pipe place left right) k r =
+    seam-within mesh w pipe place left right k r
+reached-within mesh w (OfSection pipe place count left right) k r =
+    section-within mesh w pipe place count left right k r
 
 -- ---- marks within spans
 
@@ -248,4 +210,27 @@ same-part a b part same p = record {
   probes_are = p.probes_are ∙ ap (filter (is_within (spans_of part))) (sym same.probes_are);
   steps_are = p.steps_are ∙ sym same.steps_are;
   every_is = p.every_is ∙ sym same.every_is;
+}
+
+-- ---- what a run leaves
+
+pub parts-later : {S : Type 0} (whole : Fold) (old new : List (Strand S)) → AreParts whole old
+    → AreSameFolds old new → AreParts whole new
+parts-later whole old new parts same x d h =
+    let l : x < length old = omega (arith, same.each) in
+    part-later whole (get_or old x d).frontier.fold (get_or new x d).frontier.fold (parts x d l)
+    (same.fold x d l)
+
+pub done-of : {S : Type 0} (strand_of entered_of : S → ℕ) (law : Meaning) (layout : Layout)
+    (strands : List (Strand S)) → IsLaidOut layout law.mesh
+    → AreAt strand_of entered_of law layout (region_count layout) strands
+    → AreDone law layout strands
+done-of strand_of entered_of law layout strands laid_out at = record {
+  laid_out = laid_out;
+  each = at.each;
+  strand = λ x d h. let s = at.strand x d h in record {
+    number_is = s.number_is;
+    computed_is = s.computed_is;
+    right = s.right;
+  };
 }

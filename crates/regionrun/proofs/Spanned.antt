@@ -20,7 +20,7 @@ use Rattle.regionrun.specs.Owned.{IsReached}
 has : (first count k : ℕ) → first ≤ k → k < first + count → has_place k (first, count) ≡ true
 has first count k a b = rw (le-leb first k a, lt-ltb k (first + count) b) refl
 
-pub one-span : (first count k : ℕ) → first ≤ k → k < first + count
+one-span : (first count k : ℕ) → first ≤ k → k < first + count
     → is_within ((first, count) ∷ []) k ≡ true
 unfolding is_within
 one-span first count k a b = rw (has first count k a b) refl

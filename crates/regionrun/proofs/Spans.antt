@@ -2,7 +2,9 @@
 use Rattle.std.proofs.Common.{◌≡◌, ℕ, zero, suc, ◌+◌, ◌*◌, ◌/◌, ◌<◌, ◌≤◌, inl, inr}
 use Rattle.std.proofs.Common.{Bool, true, false, List, [], ◌∷◌, length, map, take, get_or, ap, sym}
 use Rattle.std.proofs.Common.{subst, refl, ◌∙◌, arith}
+use Rattle.std.specs.Prelude.{nat_le, nat_lt}
 use Rattle.std.specs.List.{filter, sum_by}
+use Rattle.std.proofs.lemmas.Bool.{and_parts, ltb-true}
 use Rattle.std.proofs.lemmas.List.{get_or-map, length-map}
 use Rattle.std.proofs.lemmas.List.Elements.{filter_passes}
 use Rattle.std.proofs.lemmas.List.Sums.{count_by-le-length, length-filter, sum_by-take-le}
@@ -18,18 +20,23 @@ use Rattle.case_model.specs.Mesh.{IsNumbered, base_of, ends_of, no_pipe, reaches
 use Rattle.case_model.specs.Kept.{IsKept}
 use Rattle.case_model.specs.PlaceNumbers.{number_of}
 use Rattle.case_model.specs.Refusals.{sample_count}
-use Rattle.envelope.specs.Cells.{IsRising, end_of_span, is_within, no_span}
+use Rattle.envelope.specs.Cells.{IsRising, end_of_span, has_place, is_within, no_span}
 use Rattle.envelope.specs.Lines.{AreWithin}
+use Rattle.envelope.specs.Folds.{IsSameFold, probes_of, spans_of}
 use Rattle.envelope.specs.RowFolds.{probe_numbers}
+use Rattle.envelope.specs.declared.folds.Fold.{Fold}
+use Rattle.envelope.proofs.CellLaws.{within-first}
+use Rattle.case_model.proofs.ListFacts.{any-index}
 use Rattle.regions.specs.declared.shapes.Layout.{Layout}
 use Rattle.regions.specs.declared.shapes.Shape.{Shape}
 use Rattle.regions.specs.declared.shapes.Shape.TheVariants.{OfNode, OfSeam, OfSection}
 use Rattle.regions.specs.Cuts.{IsLimited}
 use Rattle.regions.specs.Sides.{IsBefore, end_at, shape_at}
 use Rattle.regions.specs.Touching.{IsLongEnd, IsStanding}
+use Rattle.regionrun.specs.Gathering.{IsPart}
 use Rattle.regionrun.specs.Lawful.{IsLawful}
 use Rattle.regionrun.specs.Right.{end_span, strand_spans}
-use Rattle.regionrun.specs.Surveys.{HasSpans, IsSpanned}
+use Rattle.regionrun.specs.Surveys.{HasSpans, IsSpanned, IsStrandFold, IsWholeFold}
 
 -- ---- place numbers of pipes
 
@@ -116,15 +123,15 @@ has-spans layout mesh x lawful h =
 
 -- ---- one span
 
-one-low : (first count i : ℕ) → first + count ≤ 400_000 → i < 1
-    → end_of_span ((first, count) ∷ []) i ≤ 400_000
-one-low first count zero h l = h
-one-low first count (suc i) h l = absurd (omega arith)
+one-below : (first count most i : ℕ) → first + count ≤ most → i < 1
+    → end_of_span ((first, count) ∷ []) i ≤ most
+one-below first count most zero h l = h
+one-below first count most (suc i) h l = absurd (omega arith)
 
 rising-one : (first count : ℕ) → first + count ≤ 400_000 → IsRising ((first, count) ∷ [])
 rising-one first count h = record {
   apart = λ i j l b. absurd (omega arith);
-  low = λ i l. one-low first count i h l;
+  low = λ i l. one-below first count 400_000 i h l;
 }
 
 -- ---- the spans of a node
@@ -134,7 +141,7 @@ span-low : (mesh : Mesh) (w p : ℕ) (last : Bool) → IsSpanned mesh w p
 span-low mesh w p true s = let l = s.long in omega arith
 span-low mesh w p false s = omega arith
 
-pub span-high : (mesh : Mesh) (w p : ℕ) (last : Bool) → IsSpanned mesh w p
+span-high : (mesh : Mesh) (w p : ℕ) (last : Bool) → IsSpanned mesh w p
     → (end_span mesh w (record { pipe = p; at_last = last })).0
     + (end_span mesh w (record { pipe = p; at_last = last })).1
     ≤ base_of mesh p + reaches mesh p + 1
@@ -163,7 +170,7 @@ spans-apart mesh w a b numbered some s t h = elim h [
 abbrev node_spans : Mesh → ℕ → ℕ → List (ℕ × ℕ)
 node_spans mesh w node = (node, 1) ∷ map (end_span mesh w) (ends_of mesh node)
 
-pub span-is : (mesh : Mesh) (w node j : ℕ) → j < length (ends_of mesh node)
+span-is : (mesh : Mesh) (w node j : ℕ) → j < length (ends_of mesh node)
     → get_or (map (end_span mesh w) (ends_of mesh node)) j no_span
     ≡ end_span mesh w (end_at mesh node j)
 span-is mesh w node j h = get_or-map (end_span mesh w) (ends_of mesh node) j no_end no_span h
@@ -193,20 +200,24 @@ node-apart mesh w node (suc i) (suc j) numbered some has before l h =
     (spans-apart mesh w (end_at mesh node i) (end_at mesh node j) numbered some (has.1 i a)
     (has.1 j b) (before i j (omega arith) b)))
 
-abbrev IsLow : ℕ × ℕ → Type 0
-IsLow span = span.0 + span.1 ≤ 400_000
+abbrev IsBelow : ℕ → ℕ × ℕ → Type 0
+IsBelow most span = span.0 + span.1 ≤ most
 
-node-low : (mesh : Mesh) (w node i : ℕ) → IsLimited mesh → HasSpans mesh w (OfNode node)
-    → i < length (ends_of mesh node) + 1 → IsLow (get_or (node_spans mesh w node) i no_span)
-node-low mesh w node zero limited has h =
-    let a = limited.nodes in let there = has.0 in omega arith
-node-low mesh w node (suc i) limited has h =
+-- the place numbers of the pipes at a node are below this
+abbrev AreBelow : Mesh → ℕ → ℕ → Type 0
+AreBelow mesh node most = (j : ℕ) → j < length (ends_of mesh node)
+    → base_of mesh (end_at mesh node j).pipe + reaches mesh (end_at mesh node j).pipe < most
+
+node-below : (mesh : Mesh) (w node most i : ℕ) → length mesh.ends ≤ most
+    → HasSpans mesh w (OfNode node) → AreBelow mesh node most
+    → i < length (ends_of mesh node) + 1 → IsBelow most (get_or (node_spans mesh w node) i no_span)
+node-below mesh w node most zero few has below h = let there = has.0 in omega arith
+node-below mesh w node most (suc i) few has below h =
     let b : i < length (ends_of mesh node) = omega arith in
     let e = end_at mesh node i in
-    let s = has.1 i b in
-    let high = span-high mesh w e.pipe e.at_last s in
-    let low = s.low in
-    subst IsLow (sym (span-is mesh w node i b)) (omega arith)
+    let high = span-high mesh w e.pipe e.at_last (has.1 i b) in
+    let low = below i b in
+    subst (IsBelow most) (sym (span-is mesh w node i b)) (omega arith)
 
 spans-length : (mesh : Mesh) (w node : ℕ)
     → length (node_spans mesh w node) ≡ length (ends_of mesh node) + 1
@@ -219,9 +230,12 @@ rising-node : (mesh : Mesh) (w node : ℕ) → IsNumbered mesh → IsLimited mes
     → IsRising (node_spans mesh w node)
 rising-node mesh w node numbered limited some has before =
     let e = spans-length mesh w node in
+    let n = limited.nodes in
+    let nodes : length mesh.ends ≤ 400_000 = omega arith in
     record {
       apart = λ i j l b. node-apart mesh w node i j numbered some has before l (omega arith);
-      low = λ i l. node-low mesh w node i limited has (omega arith);
+      low = λ i l. node-below mesh w node 400_000 i nodes has (λ j h. (has.1 j h).low)
+          (omega arith);
     }
 
 -- ---- the spans of a strand
@@ -248,6 +262,85 @@ pub spans-rising : (layout : Layout) (mesh : Mesh) (x : ℕ) → IsLawful layout
     → IsRising (strand_spans mesh layout.window (shape_at layout x))
 spans-rising layout mesh x lawful h =
     rising-by layout mesh (shape_at layout x) lawful (has-spans layout mesh x lawful h)
+
+-- ---- all spans lie within the place numbers
+
+base-inside : (mesh : Mesh) (p : ℕ) → IsNumbered mesh → p < length mesh.pipes
+    → base_of mesh p + reaches mesh p < mesh.places
+base-inside mesh p numbered h =
+    let a = numbered.bases p h in
+    let b = numbered.all in
+    let more = sum_by_more places_in mesh.pipes p no_pipe h in
+    let r = sum-rises mesh.pipes (p + 1) (length mesh.pipes) (omega arith) in
+    omega arith
+
+below-by : (mesh : Mesh) (w : ℕ) (shape : Shape) (i : ℕ) → IsNumbered mesh → 1 ≤ w
+    → HasSpans mesh w shape → i < length (strand_spans mesh w shape)
+    → end_of_span (strand_spans mesh w shape) i ≤ mesh.places
+unfolding strand_spans
+below-by mesh w (OfNode node) i numbered some has h =
+    let e = spans-length mesh w node in
+    let n = numbered.all in
+    node-below mesh w node mesh.places i (omega arith) has
+    (λ j l. base-inside mesh (end_at mesh node j).pipe numbered (has.1 j l).there) (omega arith)
+below-by mesh w (OfSeam pipe place left right) i numbered some has h =
+    let b = base-inside mesh pipe numbered has.0.there in
+    let a = has.1 in
+    let c = has.2 in
+    one-below _ _ mesh.places i (omega arith) h
+below-by mesh w (OfSection pipe place count left right) i numbered some has h =
+    let b = base-inside mesh pipe numbered has.0.there in
+    let a = has.1 in
+    let c = has.2 in
+    one-below _ _ mesh.places i (omega arith) h
+
+within-below : (spans : List (ℕ × ℕ)) (most k : ℕ)
+    → ((i : ℕ) → i < length spans → end_of_span spans i ≤ most) → is_within spans k ≡ true
+    → k < most
+unfolding is_within
+within-below spans most k below h =
+    let at = any-index (has_place k) spans no_span h in
+    let span = get_or spans at.0 no_span in
+    let low = below at.0 at.1 in
+    let high = ltb-true k (span.0 + span.1)
+    (and_parts (nat_le span.0 k) (nat_lt k (span.0 + span.1)) at.2).1 in
+    omega arith
+
+spans-inside : (layout : Layout) (mesh : Mesh) (x k : ℕ) → IsLawful layout mesh
+    → x < length layout.shapes
+    → is_within (strand_spans mesh layout.window (shape_at layout x)) k ≡ true → k < mesh.places
+spans-inside layout mesh x k lawful h =
+    within-below (strand_spans mesh layout.window (shape_at layout x)) mesh.places k
+    (λ i l. below-by mesh layout.window (shape_at layout x) i lawful.numbered lawful.whole.some
+    (has-spans layout mesh x lawful h) l)
+
+pub strand-part : (case : Case) (mesh : Mesh) (layout : Layout) (probes : List ℕ) (x : ℕ)
+    (whole part : Fold) → IsLawful layout mesh → x < length layout.shapes
+    → IsWholeFold case mesh probes whole → IsStrandFold case mesh layout probes x part
+    → IsPart whole part
+strand-part case mesh layout probes x whole part lawful h all own =
+    let spans = strand_spans mesh layout.window (shape_at layout x) in
+    record {
+      inside = λ k w. within-first (spans_of whole) mesh.places k all.spans_are
+          (spans-inside layout mesh x k lawful h
+          (subst (λ (s : List (ℕ × ℕ)). is_within s k ≡ true) own.spans_are w));
+      probes_are = own.probes_are
+          ∙ ap (λ (s : List (ℕ × ℕ)). filter (is_within s) probes) (sym own.spans_are)
+          ∙ ap (filter (is_within (spans_of part))) (sym all.probes_are);
+      steps_are = own.steps_are ∙ sym all.steps_are;
+      every_is = own.every_is ∙ sym all.every_is;
+    }
+
+pub part-later : (whole one other : Fold) → IsPart whole one → IsSameFold one other
+    → IsPart whole other
+part-later whole one other p same = record {
+  inside = λ k w. p.inside k
+      (subst (λ (s : List (ℕ × ℕ)). is_within s k ≡ true) same.spans_are w);
+  probes_are = same.probes_are ∙ p.probes_are
+      ∙ ap (λ (s : List (ℕ × ℕ)). filter (is_within s) (probes_of whole)) (sym same.spans_are);
+  steps_are = same.steps_are ∙ p.steps_are;
+  every_is = same.every_is ∙ p.every_is;
+}
 
 -- ---- the probes of a strand
 

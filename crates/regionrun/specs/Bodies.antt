@@ -3,10 +3,13 @@
 use Rattle.std.specs.Prelude.{◌≡◌, ℕ, zero, suc, ◌+◌, ◌-◌, ◌*◌, ◌<◌, ◌≤◌, ◌==◌, ◌||◌, Bool, true}
 use Rattle.std.specs.Prelude.{false, if◌then◌else◌, List, length, map, slice_index_or}
 use Rattle.case_model.specs.Meaning.{Meaning}
+use Rattle.case_model.specs.declared.meshes.Mesh.{Mesh}
 use Rattle.envelope.specs.declared.folds.Fold.{Fold}
 use Rattle.fronts.specs.Fronts.{loaded, risen, tent}
 use Rattle.fronts.specs.Stretches.{AreSamePlaces, count_of}
 use Rattle.fronts.specs.declared.stretches.Stretch.{Stretch}
+use Rattle.regions.specs.declared.shapes.Shape.{Shape}
+use Rattle.regionrun.specs.Places.{IsNodeOf, IsSeamStretch, IsSectionStretch}
 use Rattle.regionrun.specs.declared.bodies.Body.{Body}
 use Rattle.regionrun.specs.declared.bodies.Body.TheVariants.{OfNode, OfSeam, OfSection}
 use Rattle.strands.specs.Beside.{inner_side, outer_side}
@@ -25,6 +28,12 @@ abbrev pub is_section_body : Body → Bool
 is_section_body (OfSection section) = true
 is_section_body (OfSeam seam) = false
 is_section_body (OfNode hub) = false
+
+-- the body has the places of a strand of this shape
+abbrev pub IsBodyOf : Mesh → ℕ → Shape → Body → Type 0
+IsBodyOf mesh w shape (OfSection section) = IsSectionStretch mesh shape section.stretch
+IsBodyOf mesh w shape (OfSeam seam) = IsSeamStretch mesh w shape seam.stretch
+IsBodyOf mesh w shape (OfNode hub) = IsNodeOf shape hub.node
 
 -- how many neighbours the strand has
 abbrev pub side_count : Body → ℕ

@@ -1,10 +1,11 @@
 pub mod Bodies
 pub mod Engine
+pub mod Gathering
 pub mod Handed
 pub mod Lawful
-pub mod Making
+pub mod Made
 pub mod Owned
+pub mod Places
 pub mod Right
 pub mod Stubs
 pub mod Surveys
-pub mod Gathering

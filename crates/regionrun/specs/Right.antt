@@ -15,9 +15,8 @@ use Rattle.regions.specs.declared.shapes.Shape.TheVariants.{OfNode, OfSeam, OfSe
 use Rattle.regions.specs.LaidOut.{IsLaidOut}
 use Rattle.regions.specs.Needs.{needs_of}
 use Rattle.regions.specs.Sides.{back_of, is_section, shape_at, side_of, sides_of}
-use Rattle.regionrun.specs.Bodies.{IsBodyAt, has_block}
+use Rattle.regionrun.specs.Bodies.{IsBodyAt, IsBodyOf, has_block}
 use Rattle.regionrun.specs.declared.bodies.Body.{Body}
-use Rattle.regionrun.specs.declared.bodies.Body.TheVariants.{OfNode as NodeBody, OfSeam as SeamBody, OfSection as SectionBody}
 use Rattle.regionrun.specs.declared.frontiers.Frontier.{Frontier}
 use Rattle.regionrun.specs.Handed.{IsBlockFor}
 use Rattle.regionrun.specs.Owned.{owned}
@@ -42,32 +41,6 @@ strand_spans mesh w (OfSeam pipe place left right) =
     (base_of mesh pipe + place - (w - 1) / 2, 2 * ((w - 1) / 2) + 1) ∷ []
 strand_spans mesh w (OfSection pipe place count left right) =
     (base_of mesh pipe + place + 1, count - 1) ∷ []
-
--- the stretch of a section of this shape
-abbrev pub IsSectionStretch : Mesh → Shape → Stretch → Type 0
-IsSectionStretch mesh (OfNode node) stretch = ⊥
-IsSectionStretch mesh (OfSeam pipe place left right) stretch = ⊥
-IsSectionStretch mesh (OfSection pipe place count left right) stretch =
-    IsStretchOf pipe place (base_of mesh pipe + place) (count + 1) stretch
-
--- the stretch of a seam of this shape
-abbrev pub IsSeamStretch : Mesh → ℕ → Shape → Stretch → Type 0
-IsSeamStretch mesh w (OfNode node) stretch = ⊥
-IsSeamStretch mesh w (OfSeam pipe place left right) stretch =
-    IsStretchOf pipe (place - half w) (base_of mesh pipe + place - half w) (2 * half w + 1) stretch
-IsSeamStretch mesh w (OfSection pipe place count left right) stretch = ⊥
-
--- the shape is that of a node
-abbrev pub IsNodeOf : Shape → ℕ → Type 0
-IsNodeOf (OfNode node) k = k ≡ node
-IsNodeOf (OfSeam pipe place left right) k = ⊥
-IsNodeOf (OfSection pipe place count left right) k = ⊥
-
--- the body has the places of a strand of this shape
-abbrev pub IsBodyOf : Mesh → ℕ → Shape → Body → Type 0
-IsBodyOf mesh w shape (SectionBody section) = IsSectionStretch mesh shape section.stretch
-IsBodyOf mesh w shape (SeamBody seam) = IsSeamStretch mesh w shape seam.stretch
-IsBodyOf mesh w shape (NodeBody hub) = IsNodeOf shape hub.node
 
 -- of so many regions of strand x the body has the points that its next region and its blocks are
 -- made of

@@ -10,6 +10,7 @@ ghost use Rattle.regionrun.specs.Bodies.{IsSectionAfter, section_marks, side_cou
 ghost use Rattle.fronts.specs.Stretches.{AreSamePlaces, count_of};
 ghost use Rattle.strands.specs.Sections.{NotesInside};
 ghost use Rattle.strands.specs.Tents.{IsFed, IsSectionAt, IsUnfed};
+ghost use Rattle.regions.specs.declared.shapes.TheConstants.{WIDEST_WINDOW};
 ghost use Rattle.strands.specs.Marks.{Marks, marked, or_marked};
 
 use case_model::Law;
@@ -34,21 +35,21 @@ impl Body {
 
     // The step after which the window begins that a region's blocks lie in.
     fn start(&self, window: usize, region: u64) -> u64
-        requires few_steps { window ≤ 256 }
+        requires few_steps { window ≤ WIDEST_WINDOW }
         requires few { region ≤ 100_000_001 }
         ensures is { result ≡ window_start self.now window region }
         ensures low { result < 2 ^ 40 }
     {
         if self.is_section() {
-            steps_of(window, region.saturating_sub(1))
+            steps_in(window, region.saturating_sub(1))
         } else {
-            steps_of(window, region)
+            steps_in(window, region)
         }
     }
 
     /// Takes the block of one side in that a region needs.
     pub(crate) fn load(&mut self, side: usize, window: usize, region: u64, words: &[u64])
-        requires few_steps { window ≤ 256 }
+        requires few_steps { window ≤ WIDEST_WINDOW }
         requires few { region ≤ 100_000_001 }
         requires side { side < side_count self.old }
         requires each { length words.now ≡ 4 * window }
@@ -69,7 +70,7 @@ impl Body {
     /// Computes a region, and notes it.
     pub(crate) fn advance<L: Law>(&mut self, law: &L, window: usize, region: u64, fold: &mut Fold)
         requires some { 1 ≤ window }
-        requires few_steps { window ≤ 256 }
+        requires few_steps { window ≤ WIDEST_WINDOW }
         requires few { region ≤ 100_000_001 }
         requires at { IsBodyAt (L.meaning law.now) window self.old region }
         requires fits { FitsWindow window self.old }
@@ -93,7 +94,7 @@ impl Body {
 
     /// Writes a region's block for one side.
     pub(crate) fn write(&self, side: usize, window: usize, region: u64, out: &mut [u64])
-        requires few_steps { window ≤ 256 }
+        requires few_steps { window ≤ WIDEST_WINDOW }
         requires few { region ≤ 100_000_001 }
         requires side { side < side_count self.now }
         requires each { length out.old ≡ 4 * window }
@@ -101,7 +102,7 @@ impl Body {
         ensures { (law : Meaning) → IsComputed law window region self.now →
             HasOutgoing law window region side self.now out.new }
     {
-        let start = steps_of(window, region);
+        let start = steps_in(window, region);
         match self {
             Body::OfSection(section) => section.write(side == 0, window, start, out),
             Body::OfSeam(seam) => seam.write(side == 1, window, start, out),
@@ -111,8 +112,8 @@ impl Body {
 }
 
 // How many steps so many windows have.
-fn steps_of(window: usize, windows: u64) -> u64
-    requires few_steps { window ≤ 256 }
+fn steps_in(window: usize, windows: u64) -> u64
+    requires few_steps { window ≤ WIDEST_WINDOW }
     requires few { windows ≤ 100_000_001 }
     ensures is { result ≡ windows * window }
     ensures low { result < 2 ^ 40 }
@@ -129,7 +130,7 @@ fn advance_section<L: Law>(
     fold: &mut Fold,
 )
     requires some { 1 ≤ window }
-    requires few_steps { window ≤ 256 }
+    requires few_steps { window ≤ WIDEST_WINDOW }
     requires few { region ≤ 100_000_001 }
     requires long { window + 1 ≤ count_of section.old.stretch }
     requires at { IsSectionAfter (L.meaning law.now) window section.old region }
@@ -146,6 +147,6 @@ fn advance_section<L: Law>(
     if region == 0 {
         section.compute_first(law, fold);
     } else {
-        section.compute_next(law, window, steps_of(window, region - 1), fold);
+        section.compute_next(law, window, steps_in(window, region - 1), fold);
     }
 }

@@ -16,8 +16,9 @@ mod strand_folds;
 mod surveys;
 
 pub use gates::{EntryStub, Gate, OpenGate, OpenStub};
-pub use gathering::gather;
+pub use gathering::{gather, strand_folds_are_parts};
 pub use lawful::layouts_are_lawful;
+pub use making::make_strands;
 pub use one_strand::Strand;
 pub use serial::run_serial;
 pub use surveys::Survey;

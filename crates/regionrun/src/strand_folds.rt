@@ -3,12 +3,12 @@ ghost use Rattle.std.specs.Prelude.{◌≡◌, ◌+◌, ◌*◌, ◌/◌, ◌<�
 ghost use Rattle.std.specs.List.{filter};
 ghost use Rattle.case_model.specs.Mesh.{base_of, ends_of};
 ghost use Rattle.envelope.specs.Cells.{IsRising, has_place, is_within};
-ghost use Rattle.envelope.specs.Folds.{IsFoldOf, Stands};
+ghost use Rattle.envelope.specs.Folds.{Stands};
 ghost use Rattle.envelope.specs.Notings.{nothing};
 ghost use Rattle.regions.specs.declared.shapes.Shape.TheVariants.{OfNode};
 ghost use Rattle.regions.specs.Sides.{shape_at};
 ghost use Rattle.regionrun.specs.Right.{end_span, strand_spans};
-ghost use Rattle.regionrun.specs.Surveys.{HasSpans, IsSpanned, IsSurvey};
+ghost use Rattle.regionrun.specs.Surveys.{HasSpans, IsSpanned, IsStrandFold, IsSurvey};
 
 use crate::lawful::layouts_are_lawful;
 use crate::surveys::Survey;
@@ -23,10 +23,8 @@ pub(crate) fn strand_fold(alloc: Global, survey: &Survey, number: u32) -> Result
     requires survey { IsSurvey survey.now.case.now survey.now.mesh.now survey.now.layout.now
         survey.now.probes.now }
     requires there { number < length survey.now.layout.now.shapes }
-    ensures given { let layout = survey.now.layout.now in
-        let spans = strand_spans survey.now.mesh.now layout.window (shape_at layout number) in
-        let probes = filter (is_within spans) survey.now.probes.now in IfOk result (λ fold.
-        IsFoldOf spans probes survey.now.case.now.steps survey.now.case.now.every fold) }
+    ensures given { IfOk result (λ fold. IsStrandFold survey.now.case.now survey.now.mesh.now
+        survey.now.layout.now survey.now.probes.now number fold) }
     ensures fresh { IfOk result (λ fold. Stands fold nothing) }
 {
     surveyed(survey, number);

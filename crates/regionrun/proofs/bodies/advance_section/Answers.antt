@@ -26,4 +26,4 @@ returns-else-region-eq0-clause-stands g c = λ marks st.
     (marked law (or_marked marks (section_marks w stretch z)))) e
     (subst (λ (z : ℕ). Stands c.compute_next.new.fold
     (marked law (or_marked marks (is_between stretch (loaded z w n) (tent (z + w) n)))))
-    c.steps_of.ensures.is (c.compute_next.ensures.advanced.stands marks st))
+    c.steps_in.ensures.is (c.compute_next.ensures.advanced.stands marks st))

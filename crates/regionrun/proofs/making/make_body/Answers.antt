@@ -1,0 +1,18 @@
+use Rattle.strands.specs.Hubs.{spokes_of}
+use Rattle.regionrun.proofs.Flags.{flags-loaded}
+use Rattle.regionrun.proofs.Made.{hub-node}
+use Rattle.regionrun.proofs.making.make_body.Goals as goal
+use Rattle.std.proofs.Common.{subst, false, ◌∙◌, sym}
+use Rattle.regionrun.specs.Surveys.{HasSpans}
+
+pub make-requires-clause-node : goal.make-requires-clause-node
+make-requires-clause-node g c κs within =
+    let survey = c.args.survey.now in
+    let h = c.in-OfNode.is in
+    let e = c.as_slice.ensures in
+    hub-node survey.layout.now survey.mesh.now c.in-OfNode.node c.standing.ensures.lawful
+    (subst (HasSpans survey.mesh.now survey.layout.now.window) h c.standing.ensures.has)
+
+pub returns-in_ok-hub-in-OfNode-clause-bare : goal.returns-in_ok-hub-in-OfNode-clause-bare
+returns-in_ok-hub-in-OfNode-clause-bare g c =
+    flags-loaded (spokes_of c.in_ok-hub-in-OfNode.hub) false c.in_ok-hub-in-OfNode.ensures.bare

@@ -1,4 +1,0 @@
-pub mod Cut
-pub mod Filling
-pub mod Marks
-pub mod Stepped

@@ -1,0 +1,85 @@
+//! Rows of the region engine: which strands are begun and which regions are entered, in what order.
+use regionrun::{Gate, OpenStub};
+use std::alloc::{AllocError, Global};
+use std::cell::Cell;
+use std::test::Fail;
+use surge_io::{MemorySink, MemorySource};
+use surge_top::{Status, surge_plain};
+
+// A pipe of 7 reaches.
+const SEVEN: &[u8] =
+    b"surge 1\nstep 0.1\nsteps 6\nreservoir A 0 100\nreservoir B 0 100\npipe P A B 700 1 1000 0 0\n";
+
+// A short pipe of 2 reaches and a long one of 40 at a middle node.
+const CHAIN: &[u8] =
+    b"surge 1\nstep 0.1\nsteps 10\nreservoir A 0 100\njunction J 0 0 100\nreservoir B 0 100\npipe P A J 200 1 1000 0 0\npipe Q J B 4000 1 1000 0 0\n";
+
+// A gate that counts the strands that are begun in order, and the entries, and keeps the digits of the last
+// entries: one more than the number of the strand.
+#[derive(Drop)]
+struct Counting {
+    begun: u32,
+    entered: Cell<u64>,
+    order: Cell<u64>,
+}
+
+impl Gate for Counting {
+    type Stub = OpenStub;
+
+    fn begin(&mut self, strand: u32) -> OpenStub {
+        if strand == self.begun {
+            self.begun = self.begun.saturating_add(1);
+        }
+        OpenStub { strand, entered: 0 }
+    }
+
+    fn enter(&self, stub: OpenStub) -> OpenStub {
+        let digit = (stub.strand as u64).saturating_add(1);
+        self.entered.set(self.entered.get().saturating_add(1));
+        self.order
+            .set(self.order.get().saturating_mul(10).saturating_add(digit));
+        OpenStub {
+            strand: stub.strand,
+            entered: stub.entered + 1,
+        }
+    }
+}
+
+// The gate after these words over this text, and the status.
+fn passed<R: AllocGlobal>(
+    rt: &R,
+    words: &[&str],
+    text: &[u8],
+) -> Result<(Status, Counting), AllocError> {
+    let alloc: Global = rt.alloc();
+    let mut source = MemorySource::over(text.to_vec(alloc)?, 64, Vec::new(alloc));
+    let mut sink = MemorySink::make(alloc, 20_000, Vec::new(alloc))?;
+    let mut gate = Counting {
+        begun: 0,
+        entered: Cell::new(0),
+        order: Cell::new(0),
+    };
+    let status = surge_plain(rt, words, &mut source, &mut sink, &mut gate);
+    Ok((status, gate))
+}
+
+// By hand: nodes 0 and 1 have two regions and the section, 2, has three; in each region number the
+// section goes before the nodes.
+#[test]
+fn one_section_is_entered_before_its_nodes(rt: HostRuntime) -> Result<(), Fail> {
+    let (status, gate) = passed(&rt, &["surge", "rounds", "--window", "4"], SEVEN)?;
+    assert_eq!(&rt; status, Status::Done);
+    assert_eq!(&rt; gate.begun, 3);
+    assert_eq!(&rt; gate.order.get(), 3_123_123);
+    Ok(())
+}
+
+// By hand: windows of 2 steps make 5 windows; 22 stations of 5 regions and 21 sections of 6.
+#[test]
+fn each_region_is_entered_once(rt: HostRuntime) -> Result<(), Fail> {
+    let (status, gate) = passed(&rt, &["surge", "rounds"], CHAIN)?;
+    assert_eq!(&rt; status, Status::Done);
+    assert_eq!(&rt; gate.begun, 43);
+    assert_eq!(&rt; gate.entered.get(), 236);
+    Ok(())
+}
