@@ -28,9 +28,11 @@ use Rattle.regionrun.specs.declared.bodies.Body.{Body}
 use Rattle.regionrun.specs.declared.bodies.Body.TheVariants.{OfNode as NodeBody, OfSeam as SeamBody, OfSection as SectionBody}
 use Rattle.strands.specs.Hubs.{IsHubAt, IsHubEnd, IsHubNode, spokes_of}
 use Rattle.strands.specs.Marks.{Marks, marked, or_marked}
+use Rattle.strands.specs.Seams.{IsSeamAt}
 use Rattle.strands.specs.Spokes.{end_place}
 use Rattle.strands.specs.Stations.{half}
 use Rattle.strands.specs.declared.hubs.Hub.{Hub}
+use Rattle.strands.specs.declared.seams.Seam.{Seam}
 use Rattle.strands.specs.declared.spokes.Spoke.{Spoke}
 
 -- ---- a node that can have a hub
@@ -90,6 +92,16 @@ hub-first law layout x hub lawful there is at s k =
     node-start (end_of_spoke layout.window) d (spokes_of hub) layout law.mesh x hub.node lawful
     there is len (λ j h. spoke-end law layout.window hub j d at h) s k
 
+pub hub-now : (law : Meaning) (w : ℕ) (hub : Hub) → IsBodyAt law w (NodeBody hub) 0
+    → IsHubAt law w 0 hub
+hub-now law w hub at =
+    let e : 0 * w ≡ 0 = omega arith in subst (λ (z : ℕ). IsHubAt law w z hub) e at
+
+pub seam-now : (law : Meaning) (w : ℕ) (seam : Seam) → IsBodyAt law w (SeamBody seam) 0
+    → IsSeamAt law w 0 seam
+seam-now law w seam at =
+    let e : 0 * w ≡ 0 = omega arith in subst (λ (z : ℕ). IsSeamAt law w z seam) e at
+
 first-by : (law : Meaning) (layout : Layout) (x : ℕ) (shape : Shape) (body : Body)
     → IsLawful layout law.mesh → x < length layout.shapes → shape_at layout x ≡ shape
     → IsBodyOf law.mesh layout.window shape body → IsBodyAt law layout.window body 0 → (s k : ℕ)
@@ -101,7 +113,8 @@ first-by law layout x (OfSeam p place l r) (SeamBody seam) lawful there is place
     seam-start layout law.mesh x p place l r seam.stretch lawful
     (record { there = there; shape = is; over = places }) s k
 first-by law layout x (OfNode node) (NodeBody hub) lawful there is places at s k =
-    hub-first law layout x hub lawful there (is ∙ ap OfNode (sym places)) at s k
+    hub-first law layout x hub lawful there (is ∙ ap OfNode (sym places))
+    (hub-now law layout.window hub at) s k
 first-by law layout x (OfSection p place n l r) (SeamBody seam) lawful there is places at s k =
     absurd places
 first-by law layout x (OfSection p place n l r) (NodeBody hub) lawful there is places at s k =
@@ -117,7 +130,7 @@ first-by law layout x (OfNode node) (SeamBody seam) lawful there is places at s 
 
 -- ---- a fold that was told it
 
-no_marks : Marks
+abbrev no_marks : Marks
 no_marks s k = false
 
 marked-none : (law : Meaning) (s k : ℕ) → nothing s k ≡ marked law no_marks s k

@@ -24,6 +24,7 @@ use crate::frontiers::Frontier;
 use crate::gathering::strand_folds_are_parts;
 use crate::lawful::layouts_are_lawful;
 use crate::one_strand::Strand;
+use crate::sizes::sizes;
 use crate::strand_folds::{base, strand_fold};
 use crate::surveys::Survey;
 use case_model::Law;
@@ -199,9 +200,8 @@ pub fn make_strands<L: Law, G: Gate>(
 fn strand_count(survey: &Survey) -> u32
     requires survey { IsSurvey survey.now.case.now survey.now.mesh.now survey.now.layout.now
         survey.now.probes.now }
-    ensures is { result ≡ length survey.now.layout.now.shapes }
-    ensures lawful { IsLawful survey.now.layout.now survey.now.mesh.now }
+    ensures { result ≡ length survey.now.layout.now.shapes }
 {
-    layouts_are_lawful();
+    sizes(survey.layout, survey.mesh);
     survey.layout.shapes.as_slice().len() as u32
 }
