@@ -1,8 +1,10 @@
 -- What strands have when they are made.
 use Rattle.std.proofs.Common.{◌≡◌, ℕ, zero, suc, ◌+◌, ◌-◌, ◌*◌, ◌/◌, ◌<◌, ◌≤◌, Bool, true, false}
-use Rattle.std.proofs.Common.{length, List, [], ◌∷◌, get_or, map, refl, ap, sym, subst, ◌∙◌, arith, None}
+use Rattle.std.proofs.Common.{length, List, [], ◌∷◌, ◌++◌, get_or, refl, ap, sym, subst, ◌∙◌, arith, None, inl, inr, length-append}
 use Rattle.std.specs.Prelude.{if◌then◌else◌, nat_le, nat_lt, slice_index_or}
-use Rattle.std.proofs.lemmas.List.{get_or_default}
+use Rattle.std.proofs.lemmas.Bool.{cases_lt}
+use Rattle.std.proofs.lemmas.List.{get_or_append_left, get_or_default, get_or_push}
+use Rattle.case_model.specs.declared.cases.Case.{Case}
 use Rattle.case_model.specs.declared.meshes.End.{End}
 use Rattle.case_model.specs.declared.meshes.Mesh.{Mesh}
 use Rattle.case_model.specs.Joints.{no_end}
@@ -21,11 +23,13 @@ use Rattle.regionrun.proofs.Flags.{some-of}
 use Rattle.regionrun.proofs.Keeping.{StandForEqual}
 use Rattle.regionrun.specs.Bodies.{IsBodyAt, IsBodyOf}
 use Rattle.regionrun.specs.Lawful.{IsLawful}
-use Rattle.regionrun.specs.Made.{first_marks}
+use Rattle.regionrun.specs.Engine.{AreAt, none}
+use Rattle.regionrun.specs.Made.{AreNew, IsNewStrand, first_marks}
 use Rattle.regionrun.specs.Owned.{end_number, owned}
-use Rattle.regionrun.specs.Surveys.{HasSpans}
+use Rattle.regionrun.specs.Surveys.{HasSpans, IsStrandFold}
 use Rattle.regionrun.specs.declared.bodies.Body.{Body}
 use Rattle.regionrun.specs.declared.bodies.Body.TheVariants.{OfNode as NodeBody, OfSeam as SeamBody, OfSection as SectionBody}
+use Rattle.regionrun.specs.declared.one_strand.Strand.{Strand}
 use Rattle.strands.specs.Hubs.{IsHubAt, IsHubEnd, IsHubNode, spokes_of}
 use Rattle.strands.specs.Marks.{Marks, marked, or_marked}
 use Rattle.strands.specs.Seams.{IsSeamAt}
@@ -157,3 +161,51 @@ stands-first law layout x body old new lawful there places at equal same fresh t
     (λ s k l i. same-marked law (or_marked no_marks (first_marks w body)) (owned law.mesh w x 0) s k
     (sym (first-by law layout x (shape_at layout x) body lawful there refl places at s k)))
     (told no_marks (equal nothing (marked law no_marks) (λ s k l i. marked-none law s k) fresh))
+
+-- ---- one strand more
+
+pub new-more : {S : Type 0} (strand_of entered_of : S → ℕ) (case : Case) (law : Meaning)
+    (layout : Layout) (probes : List ℕ) (n : ℕ) (strands more : List (Strand S))
+    (strand : Strand S)
+    → AreNew strand_of entered_of case law layout probes n strands
+    → IsNewStrand strand_of entered_of case law layout probes n strand
+    → more ≡ strands ++ strand ∷ []
+    → AreNew strand_of entered_of case law layout probes (n + 1) more
+new-more {S} strand_of entered_of case law layout probes n strands more strand all new is =
+    let P = λ (x : ℕ). IsNewStrand strand_of entered_of case law layout probes x in
+    let each : length strands ≡ n = all.each in
+    record {
+      each = rw (is, length-append strands (strand ∷ [])) (omega arith);
+      strand = λ x d h. elim (cases_lt x n) [
+        | inl l ↦
+            subst (P x)
+            (sym (ap (λ (xs : List (Strand S)). get_or xs x d) is
+            ∙ get_or_append_left strands (strand ∷ []) d x (omega arith)))
+            (all.strand x d l)
+        | inr l ↦
+            let e : n ≡ x = omega arith in
+            subst (P x)
+            (sym (ap (λ (xs : List (Strand S)). get_or xs x d) is
+            ∙ get_or_push strands strand d x (omega arith)))
+            (subst (λ (y : ℕ). P y strand) e new)
+      ];
+    }
+
+pub new-at : {S : Type 0} (strand_of entered_of : S → ℕ) (case : Case) (law : Meaning)
+    (layout : Layout) (probes : List ℕ) (n : ℕ) (strands : List (Strand S))
+    → AreNew strand_of entered_of case law layout probes n strands → n ≡ length layout.shapes
+    → AreAt strand_of entered_of law layout none strands
+new-at strand_of entered_of case law layout probes n strands all count = record {
+  each = all.each ∙ count;
+  strand = λ x d h. (all.strand x d (omega arith)).at;
+}
+
+pub new-fold : {S : Type 0} (strand_of entered_of : S → ℕ) (case : Case) (law : Meaning)
+    (layout : Layout) (mesh : Mesh) (probes : List ℕ) (n x : ℕ) (strands : List (Strand S))
+    (d : Strand S) → mesh ≡ law.mesh
+    → AreNew strand_of entered_of case law layout probes n strands → x < length strands
+    → IsStrandFold case mesh layout probes x (get_or strands x d).frontier.fold
+new-fold strand_of entered_of case law layout mesh probes n x strands d same all h =
+    let each : length strands ≡ n = all.each in
+    subst (λ (m : Mesh). IsStrandFold case m layout probes x (get_or strands x d).frontier.fold)
+    (sym same) (all.strand x d (omega arith)).fold

@@ -1,5 +1,6 @@
-use Rattle.std.proofs.Common.{◌∙◌, ap, subst}
+use Rattle.std.proofs.Common.{◌≡◌, subst}
 use Rattle.case_model.specs.declared.meshes.Mesh.{Mesh}
+use Rattle.envelope.specs.Folds.{spans_of}
 use Rattle.regions.specs.Sides.{shape_at}
 use Rattle.regionrun.proofs.ByKind.{body-noted, body-placed}
 use Rattle.regionrun.proofs.Made.{stands-first}
@@ -13,11 +14,13 @@ note_first-requires-clause-noted g c κs within =
     let layout = c.args.survey.now.layout.now in
     let shape = shape_at layout c.args.number in
     let keeps = c.requires.keeps in
+    let spans : spans_of c.in_ok-fold.fold ≡ strand_spans law.mesh layout.window shape =
+        subst (λ (mesh : Mesh). spans_of c.in_ok-fold.fold ≡ strand_spans mesh layout.window shape)
+        c.requires.mesh c.in_ok-fold.ensures.given.spans_are in
     body-noted layout law.mesh c.args.number c.args.body.now c.in_ok-fold.fold
     (subst (IsLawful layout) c.requires.mesh c.standing.ensures.lawful) c.requires.there
     (body-placed law layout.window 0 shape c.args.body.now keeps.places keeps.points)
-    (c.in_ok-fold.ensures.given.spans_are
-    ∙ ap (λ (mesh : Mesh). strand_spans mesh layout.window shape) c.requires.mesh)
+    spans
 
 pub returns-clause-stands : goal.returns-clause-stands
 returns-clause-stands g c =
