@@ -8,7 +8,7 @@ pub enum Command {
     Check,
     /// Print the mesh.
     Mesh,
-    /// Compute row by row.
+    /// Compute on one thread.
     Rounds,
     /// Compute by workers.
     Run,

@@ -1,8 +1,8 @@
 -- The strand of a node: its spokes are the stretches that the layout has at the node's ends.
-use Rattle.std.proofs.Common.{◌≡◌, ℕ, zero, suc, ◌+◌, ◌-◌, ◌*◌, ◌/◌, ◌<◌, ◌≤◌, ◌==◌, Bool, true, false}
-use Rattle.std.proofs.Common.{not, length, List, [], ◌∷◌, map, refl, ap, sym, subst, ◌∙◌, arith}
+use Rattle.std.proofs.Common.{◌≡◌, ℕ, suc, ◌+◌, ◌-◌, ◌*◌, ◌/◌, ◌<◌, ◌≤◌, ◌==◌, Bool, true, false}
+use Rattle.std.proofs.Common.{not, length, List, ◌∷◌, map, refl, ap, sym, subst, ◌∙◌, arith}
 use Rattle.std.proofs.Common.{eq-eqb, inl}
-use Rattle.std.specs.Prelude.{◌&&◌, if◌then◌else◌, nat_le, nat_lt, slice_index_or}
+use Rattle.std.specs.Prelude.{if◌then◌else◌, nat_le, nat_lt, slice_index_or}
 use Rattle.std.proofs.lemmas.Bool.{and_parts, eqb-true, le-leb, leb-true, lt-ltb, ltb-true}
 use Rattle.std.proofs.lemmas.List.{get_or-map, length-map}
 use Rattle.case_model.specs.Joints.{no_end}
@@ -32,7 +32,7 @@ use Rattle.regionrun.specs.Right.{end_span, strand_spans}
 use Rattle.strands.specs.Hubs.{HasInner, HasOuter, IsForWindow, IsHubAt, NotesHub, hub_marks}
 use Rattle.strands.specs.Hubs.{is_passed, spokes_of}
 use Rattle.strands.specs.Marks.{or_marked}
-use Rattle.strands.specs.Spokes.{NotesSpoke, end_place, nearer_low, spoke_inner, spoke_outer}
+use Rattle.strands.specs.Spokes.{end_place, nearer_low}
 use Rattle.strands.specs.Stations.{half}
 use Rattle.strands.specs.declared.hubs.Hub.{Hub}
 use Rattle.strands.specs.declared.spokes.Spoke.{Spoke}
@@ -135,9 +135,9 @@ hub-station layout mesh x side hub d lawful over here =
     let at = over.ends.ends side d here in
     let n : ℕ = reaches mesh end.pipe in
     let same : (if end.at_last then n else 0) ≡ (if spoke.last then n else 0) =
-        end-last end.at_last spoke.last n (sym at.last_is) in
+    end-last end.at_last spoke.last n (sym at.last_is) in
     let is : IsStretchOf end.pipe (if spoke.last then n - half w else 0) spoke.stretch.number
-        (half w + 1) spoke.stretch = record {
+    (half w + 1) spoke.stretch = record {
       pipe_is = at.pipe_is;
       first_is = spoke-first spoke.last spoke.stretch.first (half w) n (at.over.first_is ∙ same);
       number_is = refl;
@@ -212,7 +212,7 @@ hub-noted layout mesh x hub fold lawful over spans =
     let ends = ends_of mesh hub.node in
     let all : List (ℕ × ℕ) = (hub.node, 1) ∷ map (end_span mesh w) ends in
     let is : spans_of fold ≡ all =
-        spans ∙ ap (strand_spans mesh w) over.shape ∙ node-spans mesh w hub.node in
+    spans ∙ ap (strand_spans mesh w) over.shape ∙ node-spans mesh w hub.node in
     record {
       node = ap (λ (z : List (ℕ × ℕ)). is_within z hub.node) is
           ∙ node-within mesh w hub.node hub.node (inl refl);
@@ -224,15 +224,15 @@ hub-noted layout mesh x hub fold lawful over spans =
           let size = length-map ends (end_span mesh w) in
           let n : ℕ = reaches mesh end.pipe in
           let in_span : IsSpanned (spoke.stretch.number + nearer_low spoke.last)
-              (count_of spoke.stretch - 1) (end_span mesh w end) =
-              subst (λ (b : Bool). IsSpanned (spoke.stretch.number + nearer_low spoke.last)
-              (count_of spoke.stretch - 1) (if b
-              then (base_of mesh end.pipe + n - (w - 1) / 2, (w - 1) / 2 + 1)
-              else (base_of mesh end.pipe, (w - 1) / 2 + 1))) at.last_is
-              (spoke-spanned spoke.last w (base_of mesh end.pipe) spoke.stretch.first
-              spoke.stretch.number (count_of spoke.stretch) n lawful.whole.some
-              (at.over.first_is ∙ end-last end.at_last spoke.last n (sym at.last_is))
-              at.over.number_is at.over.count_is) in
+          (count_of spoke.stretch - 1) (end_span mesh w end) =
+          subst (λ (b : Bool). IsSpanned (spoke.stretch.number + nearer_low spoke.last)
+          (count_of spoke.stretch - 1) (if b
+          then (base_of mesh end.pipe + n - (w - 1) / 2, (w - 1) / 2 + 1)
+          else (base_of mesh end.pipe, (w - 1) / 2 + 1))) at.last_is
+          (spoke-spanned spoke.last w (base_of mesh end.pipe) spoke.stretch.first
+          spoke.stretch.number (count_of spoke.stretch) n lawful.whole.some
+          (at.over.first_is ∙ end-last end.at_last spoke.last n (sym at.last_is))
+          at.over.number_is at.over.count_is) in
           subst (λ (z : List (ℕ × ℕ)). AreInOneSpan z
           (spoke.stretch.number + nearer_low spoke.last) (count_of spoke.stretch - 1)) (sym is)
           (in-nth all (suc i) (spoke.stretch.number + nearer_low spoke.last)
@@ -266,7 +266,7 @@ hub-owned layout mesh x m hub lawful over few =
     let w : ℕ = layout.window in
     let there = (node-stands layout mesh x hub.node lawful over.there over.shape).1 in
     let some : 0 < length (spokes_of hub) =
-        let a = lawful.limited.some_ends hub.node there in let b = over.ends.each in omega arith in
+    let a = lawful.limited.some_ends hub.node there in let b = over.ends.each in omega arith in
     let d = some-of 0 (spokes_of hub) some in
     let stretch : Spoke → Stretch = λ spoke. spoke.stretch in
     let at : Spoke → ℕ = λ spoke. end_place spoke.last (half w) in

@@ -1,6 +1,6 @@
 -- For which of its sides a node's strand has the block loaded.
 use Rattle.std.proofs.Common.{◌≡◌, ℕ, ◌<◌, ◌==◌, inl, inr, Bool, true, false, length, List, [], ◌∷◌}
-use Rattle.std.proofs.Common.{map, refl, ap, sym, subst, ◌∙◌, arith, eq-eqb}
+use Rattle.std.proofs.Common.{map, ap, sym, ◌∙◌, arith, eq-eqb}
 use Rattle.std.specs.Prelude.{◌||◌, slice_index_or}
 use Rattle.std.proofs.lemmas.Bool.{ne_eqb}
 use Rattle.std.proofs.lemmas.List.{get_or-map}
@@ -45,7 +45,7 @@ flag-taken side old new taken i h =
     elim (same-or-not i side) [
       | inl e ↦
           let on : (slice_index_or (spokes_of new) i d).loaded ≡ true =
-              ap (λ (z : ℕ). (slice_index_or (spokes_of new) z d).loaded) e ∙ taken.here d in
+          ap (λ (z : ℕ). (slice_index_or (spokes_of new) z d).loaded) e ∙ taken.here d in
           is ∙ on ∙ sym (ap (λ (b : Bool). flag_at (spokes_of old) i || b) (eq-eqb i side e)
           ∙ or-true (flag_at (spokes_of old) i))
       | inr n ↦

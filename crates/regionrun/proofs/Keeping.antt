@@ -1,6 +1,7 @@
 -- A strand keeps what it is right by: where a block is taken in, and where its next region is
 -- computed.
-use Rattle.std.proofs.Common.{◌≡◌, ℕ, zero, suc, ◌+◌, ◌*◌, ◌<◌, ◌≤◌, Bool, true, false, length, List}
+use Rattle.std.proofs.Common.{◌≡◌, ℕ, zero, suc, ◌+◌, ◌*◌, ◌<◌, ◌≤◌, Bool, true, false, length}
+use Rattle.std.proofs.Common.{List}
 use Rattle.std.proofs.Common.{refl, ap, sym, subst, ◌∙◌, arith, Some, None}
 use Rattle.std.specs.Prelude.{if◌then◌else◌}
 use Rattle.case_model.specs.Meaning.{Meaning}
@@ -12,10 +13,13 @@ use Rattle.envelope.specs.declared.folds.Fold.{Fold}
 use Rattle.regions.specs.Needs.{needs_of}
 use Rattle.regions.specs.Sides.{is_section, shape_at}
 use Rattle.regions.specs.declared.shapes.Layout.{Layout}
-use Rattle.regionrun.proofs.ByKind.{IsPlaced, body-fits, body-incoming, body-kind, body-later, body-noted, body-outgoing}
-use Rattle.regionrun.proofs.ByKind.{body-open, body-owned, body-placed, body-shut, body-sides, same-body}
+use Rattle.regionrun.proofs.ByKind.{IsPlaced, body-fits, body-incoming, body-kind, body-later}
+use Rattle.regionrun.proofs.ByKind.{body-noted, body-outgoing}
+use Rattle.regionrun.proofs.ByKind.{body-open, body-owned, body-placed, body-shut, body-sides}
+use Rattle.regionrun.proofs.ByKind.{same-body}
 use Rattle.regionrun.proofs.ByKind.{same-kind}
-use Rattle.regionrun.specs.Bodies.{FitsWindow, HasIncoming, HasOutgoing, IsComputed, IsFedBody, IsNoting, IsOpen}
+use Rattle.regionrun.specs.Bodies.{FitsWindow, HasIncoming, HasOutgoing, IsComputed, IsFedBody}
+use Rattle.regionrun.specs.Bodies.{IsNoting, IsOpen}
 use Rattle.regionrun.specs.Bodies.{IsSameBody, body_marks, is_section_body, side_count}
 use Rattle.regionrun.specs.Handed.{IsBlockFor}
 use Rattle.regionrun.specs.Lawful.{IsLawful}

@@ -99,8 +99,8 @@ seam-room : (layout : Layout) (mesh : Mesh) (x : ℕ) (stretch : Stretch) → Is
 seam-room layout mesh x stretch lawful o =
     (seam-stands layout mesh x o.pipe o.place o.left o.right lawful o.over.there o.over.shape).1
 
-pub has-station : (layout : Layout) (mesh : Mesh) (x c : ℕ) (stretch : Stretch) → IsLawful layout mesh
-    → x < length layout.shapes → c < 2
+pub has-station : (layout : Layout) (mesh : Mesh) (x c : ℕ) (stretch : Stretch)
+    → IsLawful layout mesh → x < length layout.shapes → c < 2
     → IsSeamStretch mesh layout.window (shape_at layout x) stretch
     → HasStation layout mesh x c (c == 1) (half layout.window) stretch
 has-station layout mesh x c stretch lawful there side places =
@@ -213,4 +213,3 @@ section-owned layout mesh x (suc m) stretch lawful o few s k end =
     (owned-later_section layout mesh x m o.pipe o.place o.n o.left o.right stretch lawful o.over
     (omega arith) s k end)
     ∙ ap (λ (c : ℕ). or_marked (owned mesh w x c) (section_marks w stretch (suc m)) s k) one
-

@@ -174,7 +174,7 @@ own-by layout mesh x k (OfSection p place count left right) lawful h e o =
           (refl, omega arith, omega arith, omega arith, (omega arith, omega arith));
     }
 
--- ---- row 0
+-- ---- the initial row
 
 pub owned-initial : (layout : Layout) (mesh : Mesh) (x : ℕ) → IsLawful layout mesh
     → x < length layout.shapes → (s k : ℕ)

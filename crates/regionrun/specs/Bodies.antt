@@ -21,9 +21,9 @@ use Rattle.strands.specs.Sections.{NotesInside}
 use Rattle.strands.specs.Stations.{NotesTriangles, half, seam_front}
 use Rattle.strands.specs.Tents.{IsFreshSection, IsSectionAt, IsUnfed}
 use Rattle.strands.specs.Words.{HasPoints, section_side, station_side}
-use Rattle.strands.specs.declared.spokes.Spoke.{Spoke}
 use Rattle.strands.specs.declared.tents.Section.{Section}
 
+-- whether these are the places of a section
 abbrev pub is_section_body : Body → Bool
 is_section_body (OfSection section) = true
 is_section_body (OfSeam seam) = false

@@ -7,8 +7,6 @@ use Rattle.case_model.specs.declared.meshes.Mesh.{Mesh}
 use Rattle.case_model.specs.Meaning.{Meaning}
 use Rattle.case_model.specs.Mesh.{base_of, ends_of, reaches}
 use Rattle.envelope.specs.Folds.{IsSameFold, Stands, spans_of, steps_of}
-use Rattle.fronts.specs.Stretches.{IsStretchOf}
-use Rattle.fronts.specs.declared.stretches.Stretch.{Stretch}
 use Rattle.regions.specs.declared.shapes.Layout.{Layout}
 use Rattle.regions.specs.declared.shapes.Shape.{Shape}
 use Rattle.regions.specs.declared.shapes.Shape.TheVariants.{OfNode, OfSeam, OfSection}
@@ -21,7 +19,6 @@ use Rattle.regionrun.specs.declared.frontiers.Frontier.{Frontier}
 use Rattle.regionrun.specs.Handed.{IsBlockFor}
 use Rattle.regionrun.specs.Owned.{owned}
 use Rattle.schedule.specs.Nets.{regions_of}
-use Rattle.strands.specs.Stations.{half}
 use Rattle.strands.specs.Marks.{marked}
 
 -- how many regions strand x has
@@ -93,7 +90,8 @@ has_loaded frontier c = has_block frontier.body c
 
 -- all blocks that the next region needs are loaded
 abbrev pub IsFed : Layout → Frontier → Type 0
-IsFed layout frontier = (b c : ℕ) → needs_of (is_section layout frontier.number) frontier.computed ≡ Some b
+IsFed layout frontier =
+    (b c : ℕ) → needs_of (is_section layout frontier.number) frontier.computed ≡ Some b
     → c < frontier.sides → has_loaded frontier c ≡ true
 
 -- the next region of a strand can be computed

@@ -216,7 +216,8 @@ fn handed<'a, L: Law, G: Gate>(
     requires course { IsCourse (L.meaning course.now.law.now) course.now.layout.now
         (net_of course.now.plan.now) }
     requires there { number < length course.now.layout.now.shapes }
-    requires side { side < sides_of course.now.layout.now (L.meaning course.now.law.now).mesh number }
+    requires side { side
+        < sides_of course.now.layout.now (L.meaning course.now.law.now).mesh number }
     requires room { HaveRoom course.now.layout.now (L.meaning course.now.law.now).mesh
         (length course.now.layout.now.shapes) blocks.now }
     ensures { result.now ≡ handed_words course.now.layout.now (L.meaning course.now.law.now).mesh

@@ -34,7 +34,7 @@ pub compute-requires-in-OfNode-clause-loaded : goal.compute-requires-in-OfNode-c
 compute-requires-in-OfNode-clause-loaded g c κs within =
     let hub = c.in-OfNode.hub in
     let fed : IsFedBody (OfNode hub) c.args.region =
-        subst (λ (z : Body). IsFedBody z c.args.region) c.in-OfNode.is c.requires.fed in
+    subst (λ (z : Body). IsFedBody z c.args.region) c.in-OfNode.is c.requires.fed in
     spokes-loaded (spokes_of hub) true (λ side here. fed side (λ e. cc) here)
 
 pub returns-in-OfNode-clause-bare : goal.returns-in-OfNode-clause-bare
@@ -46,7 +46,7 @@ returns-in-OfNode-clause-stands g c = λ marks st.
     let law = g.L.Law.meaning c.args.law.now in
     let w = c.args.window in
     let e : c.start-start.result ≡ c.args.region * w =
-        c.start-start.ensures.is ∙ ap (λ (z : Body). window_start z w c.args.region) c.in-OfNode.is
+    c.start-start.ensures.is ∙ ap (λ (z : Body). window_start z w c.args.region) c.in-OfNode.is
     in
     subst (λ (z : Body). Stands c.compute-in-OfNode.new.fold
     (marked law (or_marked marks (body_marks w z c.args.region))))
