@@ -3,6 +3,7 @@ mod ByKind
 mod Flags
 mod Handing
 mod Keeping
+mod Made
 mod OnPipes
 mod Parts
 mod Sizing

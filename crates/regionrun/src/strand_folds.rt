@@ -121,7 +121,7 @@ fn span_at_end(mesh: &Mesh, window: u64, end: &End) -> (u64, u64)
 }
 
 // The place number of place 0 of a pipe.
-fn base(mesh: &Mesh, pipe: u32) -> u64
+pub(crate) fn base(mesh: &Mesh, pipe: u32) -> u64
     requires { pipe < length mesh.now.pipes }
     ensures { result ≡ base_of mesh.now pipe }
 {
