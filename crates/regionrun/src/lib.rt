@@ -14,6 +14,7 @@ mod serial;
 mod sizes;
 mod strand_folds;
 mod surveys;
+mod whole;
 
 pub use gates::{EntryStub, Gate, OpenGate, OpenStub};
 pub use gathering::{gather, strand_folds_are_parts};
@@ -22,3 +23,4 @@ pub use making::make_strands;
 pub use one_strand::Strand;
 pub use serial::run_serial;
 pub use surveys::Survey;
+pub use whole::compute;

@@ -187,7 +187,7 @@ pub fn make_strands<L: Law, G: Gate>(
 {
     strand_folds_are_parts();
     let count = strand_count(survey);
-    let mut strands = Vec::new(alloc);
+    let mut strands = Vec::with_capacity(alloc, count as usize)?;
     for number in 0..count {
         let stub = gate.begin(number);
         let strand = Strand::make(alloc, law, survey, number, stub)?;

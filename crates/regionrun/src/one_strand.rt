@@ -28,7 +28,7 @@ impl<S: EntryStub> Strand<S> {
 
     /// A strand of a survey of which nothing is computed, with a stub that has entered nothing. The
     /// error is want of memory.
-    pub(crate) fn make<L: Law>(
+    pub fn make<L: Law>(
         alloc: Global,
         law: &L,
         survey: &Survey,

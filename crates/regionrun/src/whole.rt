@@ -12,6 +12,7 @@ use crate::serial::run_serial;
 use crate::{Gate, Survey};
 use case_model::Law;
 use envelope::Fold;
+use regions::layouts_are_sound;
 use std::alloc::{AllocError, Global};
 
 /// Tells a fold over all places the rows of a law, for the case, the mesh and the layout of a
@@ -33,6 +34,7 @@ pub fn compute<L: Law, G: Gate>(
     ensures same { IsSameFold into.old into.new }
     ensures told { OnOk result (Stands into.new (rows_noted (L.meaning law.now))) }
 {
+    layouts_are_sound();
     let strands = make_strands(alloc, law, survey, gate)?;
     let strands = run_serial(alloc, law, survey.layout, survey.mesh, strands, gate)?;
     gather(&strands, into);
