@@ -1,7 +1,7 @@
 -- What strands have when they are made.
-use Rattle.std.proofs.Common.{◌≡◌, ℕ, zero, suc, ◌+◌, ◌-◌, ◌*◌, ◌/◌, ◌<◌, ◌≤◌, Bool, true, false}
-use Rattle.std.proofs.Common.{length, List, [], ◌∷◌, ◌++◌, get_or, refl, ap, sym, subst, ◌∙◌, arith, None, inl, inr, length-append}
-use Rattle.std.specs.Prelude.{if◌then◌else◌, nat_le, nat_lt, slice_index_or}
+use Rattle.std.proofs.Common.{◌≡◌, ℕ, ◌+◌, ◌*◌, ◌<◌, inl, inr, Bool, true, false, length, List, []}
+use Rattle.std.proofs.Common.{◌∷◌, ◌++◌, get_or, None, refl, ap, sym, subst, ◌∙◌, arith, length-append}
+use Rattle.std.specs.Prelude.{if◌then◌else◌}
 use Rattle.std.proofs.lemmas.Bool.{cases_lt}
 use Rattle.std.proofs.lemmas.List.{get_or_append_left, get_or_default, get_or_push}
 use Rattle.case_model.specs.declared.cases.Case.{Case}
@@ -22,13 +22,15 @@ use Rattle.regionrun.proofs.Begun.{node-start, seam-start, section-start}
 use Rattle.regionrun.proofs.Flags.{some-of}
 use Rattle.regionrun.proofs.Keeping.{StandForEqual}
 use Rattle.regionrun.specs.Bodies.{IsBodyAt, IsBodyOf}
-use Rattle.regionrun.specs.Lawful.{IsLawful}
 use Rattle.regionrun.specs.Engine.{AreAt, none}
+use Rattle.regionrun.specs.Lawful.{IsLawful}
 use Rattle.regionrun.specs.Made.{AreNew, IsNewStrand, first_marks}
 use Rattle.regionrun.specs.Owned.{end_number, owned}
 use Rattle.regionrun.specs.Surveys.{HasSpans, IsStrandFold}
 use Rattle.regionrun.specs.declared.bodies.Body.{Body}
-use Rattle.regionrun.specs.declared.bodies.Body.TheVariants.{OfNode as NodeBody, OfSeam as SeamBody, OfSection as SectionBody}
+use Rattle.regionrun.specs.declared.bodies.Body.TheVariants.{OfNode as NodeBody}
+use Rattle.regionrun.specs.declared.bodies.Body.TheVariants.{OfSeam as SeamBody}
+use Rattle.regionrun.specs.declared.bodies.Body.TheVariants.{OfSection as SectionBody}
 use Rattle.regionrun.specs.declared.one_strand.Strand.{Strand}
 use Rattle.strands.specs.Hubs.{IsHubAt, IsHubEnd, IsHubNode, spokes_of}
 use Rattle.strands.specs.Marks.{Marks, marked, or_marked}
@@ -82,7 +84,7 @@ spoke-end law w hub i d at h =
     let end = is.end_is in
     let last = end-is spoke.last (reaches law.mesh spoke.stretch.pipe) in
     let e : end_of_spoke w spoke ≡ base_of law.mesh spoke.stretch.pipe
-        + (if spoke.last then reaches law.mesh spoke.stretch.pipe else 0) = omega arith in
+    + (if spoke.last then reaches law.mesh spoke.stretch.pipe else 0) = omega arith in
     e ∙ ap (end_number law.mesh) (sym ((at.on_mesh.ends i d l).end_is no_end))
 
 hub-first : (law : Meaning) (layout : Layout) (x : ℕ) (hub : Hub) → IsLawful layout law.mesh
@@ -110,8 +112,8 @@ first-by : (law : Meaning) (layout : Layout) (x : ℕ) (shape : Shape) (body : B
     → IsLawful layout law.mesh → x < length layout.shapes → shape_at layout x ≡ shape
     → IsBodyOf law.mesh layout.window shape body → IsBodyAt law layout.window body 0 → (s k : ℕ)
     → owned law.mesh layout.window x 0 s k ≡ first_marks layout.window body s k
-first-by law layout x (OfSection p place n l r) (SectionBody section) lawful there is places at s k =
-    section-start layout law.mesh x p place n l r section.stretch lawful
+first-by law layout x (OfSection p place n l r) (SectionBody kept) lawful there is places at s k =
+    section-start layout law.mesh x p place n l r kept.stretch lawful
     (record { there = there; shape = is; over = places }) s k
 first-by law layout x (OfSeam p place l r) (SeamBody seam) lawful there is places at s k =
     seam-start layout law.mesh x p place l r seam.stretch lawful

@@ -15,8 +15,8 @@ note_first-requires-clause-noted g c κs within =
     let shape = shape_at layout c.args.number in
     let keeps = c.requires.keeps in
     let spans : spans_of c.in_ok-fold.fold ≡ strand_spans law.mesh layout.window shape =
-        subst (λ (mesh : Mesh). spans_of c.in_ok-fold.fold ≡ strand_spans mesh layout.window shape)
-        c.requires.mesh c.in_ok-fold.ensures.given.spans_are in
+    subst (λ (mesh : Mesh). spans_of c.in_ok-fold.fold ≡ strand_spans mesh layout.window shape)
+    c.requires.mesh c.in_ok-fold.ensures.given.spans_are in
     body-noted layout law.mesh c.args.number c.args.body.now c.in_ok-fold.fold
     (subst (IsLawful layout) c.requires.mesh c.standing.ensures.lawful) c.requires.there
     (body-placed law layout.window 0 shape c.args.body.now keeps.places keeps.points)

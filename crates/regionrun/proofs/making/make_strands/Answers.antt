@@ -1,4 +1,4 @@
-use Rattle.std.proofs.Common.{◌≡◌, ℕ, ◌<◌, arith, length}
+use Rattle.std.proofs.Common.{◌≡◌, ◌<◌, arith, length}
 use Rattle.regionrun.proofs.Made.{new-at, new-fold, new-more}
 use Rattle.regionrun.proofs.making.make_strands.Goals as goal
 
@@ -14,12 +14,12 @@ pub returns-clause-at : goal.returns-clause-at
 returns-clause-at g c =
     let survey = c.args.survey.now in
     let count : c.loop-number.number ≡ length survey.layout.now.shapes =
-        omega (
-          arith,
-          c.loop-number-test.false,
-          c.loop-number.auto.number-end,
-          c.strand_count-count.ensures,
-        ) in
+    omega (
+      arith,
+      c.loop-number-test.false,
+      c.loop-number.auto.number-end,
+      c.strand_count-count.ensures,
+    ) in
     new-at g.G.Stub.EntryStub.strand_of g.G.Stub.EntryStub.entered_of survey.case.now
     (g.L.Law.meaning c.args.law.now) survey.layout.now survey.probes.now c.loop-number.number
     c.loop-number.strands.items c.loop-number.invariant count
@@ -30,13 +30,13 @@ returns-clause-parts g c = λ into whole x d here.
     let layout = survey.layout.now in
     let all = c.loop-number.invariant in
     let there : x < length layout.shapes =
-        omega (
-          arith,
-          all.each,
-          here,
-          c.loop-number.auto.number-end,
-          c.strand_count-count.ensures,
-        ) in
+    omega (
+      arith,
+      all.each,
+      here,
+      c.loop-number.auto.number-end,
+      c.strand_count-count.ensures,
+    ) in
     c.strand_folds_are_parts.ensures.part survey.case.now survey.mesh.now layout survey.probes.now
     x into _ c.requires.survey there whole
     (new-fold g.G.Stub.EntryStub.strand_of g.G.Stub.EntryStub.entered_of survey.case.now

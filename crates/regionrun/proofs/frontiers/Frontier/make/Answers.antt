@@ -18,10 +18,10 @@ returns g c =
     let keeps = c.in_ok-body.ensures.keeps in
     let given = c.in_ok-fold.ensures.given in
     let sides : c.sides.result ≡ sides_of layout law.mesh x =
-        c.sides.ensures ∙ ap (λ (mesh : Mesh). sides_of layout mesh x) c.requires.mesh in
+    c.sides.ensures ∙ ap (λ (mesh : Mesh). sides_of layout mesh x) c.requires.mesh in
     let count : c.sides.result ≡ side_count body =
-        sides ∙ body-sides layout law.mesh x body c.requires.there
-        (body-placed law layout.window 0 (shape_at layout x) body keeps.places keeps.points) in
+    sides ∙ body-sides layout law.mesh x body c.requires.there
+    (body-placed law layout.window 0 (shape_at layout x) body keeps.places keeps.points) in
     record {
       number_is = refl;
       computed_is = refl;
