@@ -153,7 +153,7 @@ set-block : (law : Meaning) (layout : Layout) (t x : ℕ) (blocks : List (List �
 set-block law layout t x blocks out have there has written y b below counted few (inl e) =
     let inside : x < length blocks = subst (λ k. x < k) (sym have.room.each) there in
     let is : t / 2 + 1 ≡ b + 1 =
-        sym (count-then layout t x has) ∙ ap (count_at layout t (x + 1)) (sym e) ∙ counted in
+    sym (count-then layout t x has) ∙ ap (count_at layout t (x + 1)) (sym e) ∙ counted in
     let same : t / 2 ≡ b = omega arith in
     subst (λ k. IsBlock law layout k b (slice_index_or (slice_set blocks x out) k [])) (sym e)
     (subst (IsBlock law layout x b) (sym (get_or-set_same blocks x out [] inside))
@@ -375,7 +375,7 @@ last-section : (layout : Layout) (y : ℕ) → is_section layout y ≡ true
 last-section layout y section =
     let t = 2 * layout.windows + 1 in
     let off : has_turn layout t y ≡ false =
-        ap (λ s. if s then is_even t else not (is_even t)) section ∙ odd-last layout.windows in
+    ap (λ s. if s then is_even t else not (is_even t)) section ∙ odd-last layout.windows in
     let many : (t + 1) / 2 ≡ layout.windows + 1 = omega arith in
     other-count layout t 0 y off ∙ many ∙ sym (ap (λ s. regions_of s layout.windows) section)
 
@@ -384,8 +384,8 @@ last-station : (layout : Layout) (y : ℕ) → is_section layout y ≡ false
 last-station layout y station =
     let t = 2 * layout.windows + 1 in
     let has : has_turn layout t y ≡ true =
-        ap (λ s. if s then is_even t else not (is_even t)) station
-        ∙ ap not (odd-last layout.windows) in
+    ap (λ s. if s then is_even t else not (is_even t)) station
+    ∙ ap not (odd-last layout.windows) in
     let many : t / 2 ≡ layout.windows = omega arith in
     counted-begun layout t y has ∙ many ∙ sym (ap (λ s. regions_of s layout.windows) station)
 

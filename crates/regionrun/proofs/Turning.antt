@@ -6,19 +6,17 @@ use Rattle.std.proofs.Common.{sym, ◌∙◌, ap, subst, arith, inl, inr, eq-eqb
 use Rattle.std.proofs.lemmas.Bool.{eqb-true, eqb-false, or_right}
 use Rattle.std.proofs.lemmas.List.{get_or_default}
 use Rattle.std.proofs.Math.Nat.{mul-le-mul_left}
-use Rattle.case_model.specs.declared.meshes.Mesh.{Mesh}
 use Rattle.case_model.specs.Meaning.{Meaning}
 use Rattle.regions.specs.declared.shapes.Layout.{Layout}
 use Rattle.regions.specs.Needs.{needs_of}
-use Rattle.regions.specs.Sides.{back_of, is_section, shape_at, side_of, sides_of, AreMutual}
+use Rattle.regions.specs.Sides.{back_of, is_section, side_of, sides_of, AreMutual}
 use Rattle.regionrun.specs.declared.frontiers.Frontier.{Frontier}
 use Rattle.regionrun.specs.Engine.{HaveBlocks, HaveRoom, IsCourse, count_at, handed_words, has_turn}
 use Rattle.regionrun.specs.Engine.{is_even}
-use Rattle.regionrun.specs.Handed.{IsBlock, IsBlockFor, part}
+use Rattle.regionrun.specs.Handed.{IsBlock, part}
 use Rattle.regionrun.specs.Right.{IsRight, IsSameStrand, IsWanted, has_loaded}
 use Rattle.strands.proofs.Handing.{before-or-at}
-use Rattle.schedule.specs.LayoutNets.{layout_net}
-use Rattle.schedule.specs.Nets.{IsSameNet, Net}
+use Rattle.schedule.specs.Nets.{Net}
 
 -- ---- the sides of a plan
 
@@ -75,14 +73,14 @@ part-inside law layout net x c y back blocks words course room there side link i
     let width = 4 * layout.window in
     let z = side_of layout law.mesh x c in
     let r : back ≡ back_of layout law.mesh x c =
-        link.side ∙ course.planned.back_is x c there side in
+    link.side ∙ course.planned.back_is x c there side in
     let less : back < sides_of layout law.mesh z =
-        subst (λ k. k < sides_of layout law.mesh z) (sym r) (both.index x c there side) in
+    subst (λ k. k < sides_of layout law.mesh z) (sym r) (both.index x c there side) in
     let m : width * (back + 1) ≤ width * sides_of layout law.mesh z =
-        mul-le-mul_left width (omega arith) in
+    mul-le-mul_left width (omega arith) in
     let n : length words ≡ width * sides_of layout law.mesh z =
-        ap length (linked-words law layout net x c y back blocks words course room there side link is)
-        ∙ room.words z (both.inside x c there side) in
+    ap length (linked-words law layout net x c y back blocks words course room there side link is)
+    ∙ room.words z (both.inside x c there side) in
     omega arith
 
 -- and that part is what was handed to it
@@ -182,14 +180,14 @@ wanted law layout t c frontier blocks both right has computed most blocks_are si
     let x = frontier.number in
     let y = side_of layout law.mesh x c in
     let needed : needs_of (is_section layout x) (t / 2) ≡ Some b =
-        subst (λ k. needs_of (is_section layout x) k ≡ Some b) computed need in
+    subst (λ k. needs_of (is_section layout x) k ≡ Some b) computed need in
     let there : y < length layout.shapes = both.inside x c right.there side in
     let off : has_turn layout t y ≡ false =
-        other-turn layout t x y (both.kinds x c right.there side) has in
+    other-turn layout t x y (both.kinds x c right.there side) has in
     let block : IsBlock law layout y b (slice_index_or blocks y []) =
-        blocks_are.block y b there
-        (other-count layout t x y off ∙ needed-is (is_section layout x) t b has needed)
-        (needed-below (is_section layout x) t b layout.windows has needed most) in
+    blocks_are.block y b there
+    (other-count layout t x y off ∙ needed-is (is_section layout x) t b has needed)
+    (needed-below (is_section layout x) t b layout.windows has needed most) in
     record {
       right = right;
       side = side;

@@ -1,9 +1,8 @@
-use Rattle.std.proofs.Common.{◌≡◌, ◌∙◌, ◌+◌, ◌*◌, ◌/◌, ◌<◌, ap, arith, length, List, [], ℕ, refl, slice_index_or, slice_set, subst, sym}
+use Rattle.std.proofs.Common.{◌≡◌, ◌∙◌, ◌+◌, ◌/◌, ◌<◌, ap, length, [], slice_index_or, slice_set, subst, sym}
 use Rattle.std.proofs.lemmas.List.{get_or_default}
-use Rattle.regions.specs.Sides.{sides_of}
 use Rattle.regionrun.specs.declared.frontiers.Frontier.{Frontier}
 use Rattle.regionrun.specs.declared.one_strand.Strand.{Strand}
-use Rattle.regionrun.specs.Engine.{HaveBlocks, count_at, has_turn}
+use Rattle.regionrun.specs.Engine.{HaveBlocks, count_at}
 use Rattle.regionrun.specs.Handed.{IsBlock}
 use Rattle.regionrun.specs.Right.{IsRight, region_count}
 use Rattle.regionrun.specs.Stubs.{HasStub}

@@ -9,20 +9,20 @@ load-requires-clause-wanted g c κs within =
     record {
       layout = layout;
       wanted = feeding law layout c.args.turn c.loop-side.side c.args.frontier.now c.loop-side.frontier
-      c.args.blocks.now c.handed-words.result.now c.requires.course.lawful.sides
-      record {
-        has = c.requires.has;
-        computed = c.requires.computed;
-        most = c.requires.turn;
-        blocks_are = c.requires.blocks;
-        needs = sym (c.if-not-needs.ensures law layout c.requires.right);
-      }
-      record {
-        right = c.loop-side.invariant.right;
-        same = c.loop-side.invariant.same;
-        computed = c.loop-side.invariant.computed;
-      }
-      c.loop-side-test.true c.handed-words.ensures;
+          c.args.blocks.now c.handed-words.result.now c.requires.course.lawful.sides
+          record {
+            has = c.requires.has;
+            computed = c.requires.computed;
+            most = c.requires.turn;
+            blocks_are = c.requires.blocks;
+            needs = sym (c.if-not-needs.ensures law layout c.requires.right);
+          }
+          record {
+            right = c.loop-side.invariant.right;
+            same = c.loop-side.invariant.same;
+            computed = c.loop-side.invariant.computed;
+          }
+          c.loop-side-test.true c.handed-words.ensures;
     }
 
 pub loop-side-preserved : goal.loop-side-preserved
@@ -32,20 +32,20 @@ loop-side-preserved g c =
     record {
       right = c.load.ensures.right layout
           (feeding law layout c.args.turn c.loop-side.side c.args.frontier.now c.loop-side.frontier
-      c.args.blocks.now c.handed-words.result.now c.requires.course.lawful.sides
-      record {
-        has = c.requires.has;
-        computed = c.requires.computed;
-        most = c.requires.turn;
-        blocks_are = c.requires.blocks;
-        needs = sym (c.if-not-needs.ensures law layout c.requires.right);
-      }
-      record {
-        right = c.loop-side.invariant.right;
-        same = c.loop-side.invariant.same;
-        computed = c.loop-side.invariant.computed;
-      }
-      c.loop-side-test.true c.handed-words.ensures);
+          c.args.blocks.now c.handed-words.result.now c.requires.course.lawful.sides
+          record {
+            has = c.requires.has;
+            computed = c.requires.computed;
+            most = c.requires.turn;
+            blocks_are = c.requires.blocks;
+            needs = sym (c.if-not-needs.ensures law layout c.requires.right);
+          }
+          record {
+            right = c.loop-side.invariant.right;
+            same = c.loop-side.invariant.same;
+            computed = c.loop-side.invariant.computed;
+          }
+          c.loop-side-test.true c.handed-words.ensures);
       same = same-on c.args.frontier.now c.loop-side.frontier c.load.new.self
           c.loop-side.invariant.same c.load.ensures.same.0;
       computed = c.load.ensures.same.1 ∙ c.loop-side.invariant.computed;

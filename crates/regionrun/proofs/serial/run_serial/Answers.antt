@@ -1,4 +1,4 @@
-use Rattle.std.proofs.Common.{◌≡◌, ◌∙◌, ap, length, subst, sym}
+use Rattle.std.proofs.Common.{◌∙◌, ap, length, subst, sym}
 use Rattle.regionrun.specs.Lawful.{IsLawful}
 use Rattle.schedule.specs.LayoutNets.{layout_net}
 use Rattle.schedule.specs.Nets.{IsSameNet}

@@ -1,4 +1,4 @@
-use Rattle.std.proofs.Common.{◌≡◌, arith}
+use Rattle.std.proofs.Common.{arith}
 use Rattle.regionrun.proofs.Stepping.{first-turn, folds-on, folds-same, last-turn}
 use Rattle.regionrun.proofs.serial.run_turns.Goals as goal
 

@@ -1,4 +1,4 @@
-use Rattle.std.proofs.Common.{◌∙◌, sym}
+use Rattle.std.proofs.Common.{sym}
 use Rattle.regionrun.proofs.Stepping.{turn-skipped}
 use Rattle.regionrun.proofs.serial.take_turn.Goals as goal
 

@@ -1,4 +1,3 @@
-use Rattle.std.proofs.Common.{rules, ℕ, ◌<◌, ◌≤◌, length}
 use Rattle.regionrun.proofs.Sizing.{few-sides}
 use Rattle.regionrun.proofs.sizes.sizes.Goals as goal
 

@@ -1,4 +1,4 @@
-use Rattle.std.proofs.Common.{◌≡◌, ◌*◌, ◌≤◌, ◌∙◌, [], ◌∷◌, ap, subst, sym}
+use Rattle.std.proofs.Common.{◌*◌, ◌≤◌, ◌∙◌, [], ◌∷◌, ap, subst, sym}
 use Rattle.case_model.specs.declared.meshes.Mesh.{Mesh}
 use Rattle.regions.specs.LaidOut.{IsLaidOut}
 use Rattle.regionrun.specs.Gathering.{AreDone, AreParts}
@@ -18,8 +18,8 @@ returns-clause-told g c =
     let law = g.L.Law.meaning c.args.law.now in
     let layout = c.args.survey.now.layout.now in
     let laid_out : IsLaidOut layout law.mesh =
-        subst (IsLaidOut layout) c.requires.mesh
-        record { case = c.args.survey.now.case.now; cut = c.requires.survey.cut; } in
+    subst (IsLaidOut layout) c.requires.mesh
+    record { case = c.args.survey.now.case.now; cut = c.requires.survey.cut } in
     c.gather.ensures.stands law layout
     (subst (AreDone law layout) (sym c.deref.ensures.value)
     (done-of g.G.Stub.EntryStub.strand_of g.G.Stub.EntryStub.entered_of law layout
