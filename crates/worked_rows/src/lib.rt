@@ -11,8 +11,6 @@ mod mesh_rows;
 #[cfg(test)]
 mod number_rows;
 #[cfg(test)]
-mod region_rows;
-#[cfg(test)]
 mod report_rows;
 #[cfg(test)]
 mod words_rows;

@@ -1,0 +1,5 @@
+//! Rows of the region engine. It has tests alone, so that the crates below are proved once.
+#![tactic(auto)]
+
+#[cfg(test)]
+mod entries;
