@@ -38,7 +38,7 @@ pub(crate) fn rounds<K: Sink, G: Gate>(
         HasAnswered K.held K.faults result out.old out.new (computed case.now mesh.now fault) }
 {
     match fold_rows(alloc, case, mesh, wish, gate) {
-        Ok(fold) => report(case, mesh, &fold, out),
+        Ok(fold) => write_answer(case, mesh, &fold, out),
         Err(AllocError) => Status::Memory,
     }
 }
@@ -74,7 +74,7 @@ fn fold_rows<G: Gate>(
 }
 
 // Writes the report of a fold that was told every row of an accepted case, or its first fault.
-fn report<K: Sink>(case: &Case, mesh: &Mesh, fold: &Fold, out: &mut K) -> Status
+fn write_answer<K: Sink>(case: &Case, mesh: &Mesh, fold: &Fold, out: &mut K) -> Status
     requires accepted { IsAccepted case.now mesh.now }
     requires given { let probes = numbers_of mesh.now case.now in
         IsFoldOf ((0, mesh.now.places) ∷ []) probes case.now.steps case.now.every fold.now }
