@@ -39,11 +39,7 @@ pub(crate) fn fold_over(
 }
 
 /// The place numbers of the probes, in file order. The error is want of memory.
-pub(crate) fn probe_numbers(
-    alloc: Global,
-    case: &Case,
-    mesh: &Mesh,
-) -> Result<Vec<u64>, AllocError>
+pub(crate) fn probe_numbers(alloc: Global, case: &Case, mesh: &Mesh) -> Result<Vec<u64>, AllocError>
     requires accepted { IsAccepted case.now mesh.now }
     requires on { All (λ probe. IsOn mesh.now probe.at) case.now.probes }
     ensures { IfOk result (λ numbers. numbers.items ≡ numbers_of mesh.now case.now) }
