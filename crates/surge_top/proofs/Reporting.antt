@@ -1,5 +1,6 @@
 -- What a fold keeps of the rows of an accepted case is what the definitions say of them.
-use Rattle.std.proofs.Common.{◌≡◌, ◌∙◌, ℕ, ◌+◌, ◌%◌, ◌<◌, ◌≤◌, List, [], ◌∷◌, length, get_or, Option, None, ap, sym, subst, refl, arith}
+use Rattle.std.proofs.Common.{◌≡◌, ◌∙◌, ℕ, ◌+◌, ◌%◌, ◌<◌, ◌≤◌, List, [], ◌∷◌, length, get_or, Option, Some, None, ap, sym, subst, refl, arith}
+use Rattle.std.specs.Prelude.{IfSome}
 use Rattle.std.specs.List.{All}
 use Rattle.std.proofs.lemmas.List.{get_or-map, length-map}
 use Rattle.case_model.specs.declared.cases.Case.{Case}
@@ -14,6 +15,7 @@ use Rattle.case_model.specs.PlaceNumbers.{IsOn, number_of}
 use Rattle.case_model.specs.Samples.{Sample, sample}
 use Rattle.envelope.proofs.CellLaws.{within-first}
 use Rattle.envelope.specs.Cells.{IsRising, end_of_span}
+use Rattle.envelope.specs.Faults.{HasFault}
 use Rattle.envelope.specs.Folds.{Stands, IsFoldOf, IsSameFold, spans_of, steps_of}
 use Rattle.envelope.specs.Kept.{extreme_kept, sample_kept}
 use Rattle.envelope.specs.Lines.{AreWithin}
@@ -89,3 +91,34 @@ given_still spans probes steps every old new p q = record {
 -- the first fault, of a law and a step that are known by other names
 pub fault_here : (law other : Meaning) (n last : ℕ) (o : Option (ℕ × ℕ)) → o ≡ first_fault law n → law ≡ other → n ≡ last → first_fault other last ≡ o
 fault_here law other n last o h e k = sym (h ∙ ap (λ m. first_fault m n) e ∙ ap (λ s. first_fault other s) k)
+
+-- ---- the first fault of a fold that was told all rows
+
+-- the laws of folds over rows and of place numbers, for faults
+abbrev pub FaultLaw : Type 0
+FaultLaw = (law : Meaning) (last : ℕ) (fault : Option (ℕ × ℕ)) → IsNumbered law.mesh
+    → HasFault ((0, law.mesh.places) ∷ []) last (rows_noted law) fault
+    → fault ≡ first_fault law last
+
+abbrev pub ThereLaw : Type 0
+ThereLaw = (law : Meaning) (last step place : ℕ) → IsNumbered law.mesh
+    → first_fault law last ≡ Some (step, place) → place < law.mesh.places
+
+pub fault-told : (law : Meaning) (mesh : Mesh) (probes : List ℕ) (steps every : ℕ) (fold : Fold)
+    (fault : Option (ℕ × ℕ)) → law.mesh ≡ mesh → IsNumbered mesh → FaultLaw
+    → IsFoldOf ((0, mesh.places) ∷ []) probes steps every fold
+    → HasFault (spans_of fold) (steps_of fold) (rows_noted law) fault
+    → fault ≡ first_fault law steps
+fault-told law mesh probes steps every fold fault same numbered tells given has =
+    tells law steps fault (subst IsNumbered (sym same) numbered)
+    (subst (λ (m : Mesh). HasFault ((0, m.places) ∷ []) steps (rows_noted law) fault) (sym same)
+    (subst (λ spans. HasFault spans steps (rows_noted law) fault) given.spans_are
+    (subst (λ last. HasFault (spans_of fold) last (rows_noted law) fault) given.steps_are has)))
+
+pub fault-there : (law : Meaning) (mesh : Mesh) (last : ℕ) (fault : Option (ℕ × ℕ))
+    → law.mesh ≡ mesh → IsNumbered mesh → ThereLaw → fault ≡ first_fault law last
+    → IfSome fault (λ at. at.1 < mesh.places)
+fault-there law mesh last (Some (step, place)) same numbered there is =
+    subst (λ (m : Mesh). place < m.places) same
+    (there law last step place (subst IsNumbered (sym same) numbered) (sym is))
+fault-there law mesh last None same numbered there is = tt

@@ -1,5 +1,5 @@
 //! What `rounds` does with an accepted case: it computes the regions of all strands on one thread.
-ghost use Rattle.std.specs.Prelude.{◌≤◌, [], ◌∷◌, IfOk};
+ghost use Rattle.std.specs.Prelude.{◌≡◌, ◌<◌, ◌≤◌, [], ◌∷◌, IfOk, IfSome};
 ghost use Rattle.case_model.specs.Accepted.{IsAccepted};
 ghost use Rattle.case_model.specs.FirstFault.{first_fault};
 ghost use Rattle.envelope.specs.Folds.{IsFoldOf, Stands};
@@ -13,7 +13,7 @@ use crate::folding::{fold_over, probe_numbers, write_rows};
 use crate::status::Status;
 use crate::top::ended;
 use case_model::{Case, Mesh};
-use envelope::{Fold, folds_tell_rows};
+use envelope::{Fold, folds_tell_rows, numbers_tell_places};
 use regionrun::{Gate, Survey, compute};
 use regions::{WIDEST_WINDOW, layout};
 use report::{sizes, write_range};
@@ -83,9 +83,24 @@ fn write_answer<K: Sink>(case: &Case, mesh: &Mesh, fold: &Fold, out: &mut K) -> 
         HasAnswered K.held K.faults result out.old out.new (computed case.now mesh.now fault) }
 {
     sizes(case, mesh);
-    folds_tell_rows();
-    match fold.fault() {
+    match fault_in(case, mesh, fold) {
         Some((step, place)) => ended(write_range(case, mesh, step, place, out), Status::Range),
         None => ended(write_rows(case, mesh, fold, out), Status::Done),
     }
+}
+
+// The first fault of the rows that a fold was told.
+fn fault_in(case: &Case, mesh: &Mesh, fold: &Fold) -> Option<(u64, u64)>
+    requires accepted { IsAccepted case.now mesh.now }
+    requires given { let probes = numbers_of mesh.now case.now in
+        IsFoldOf ((0, mesh.now.places) ∷ []) probes case.now.steps case.now.every fold.now }
+    requires told { Stands fold.now (rows_noted (meaning_of case.now mesh.now)) }
+    ensures fault { result ≡ first_fault (meaning_of case.now mesh.now) case.now.steps }
+    ensures there { IfSome result (λ at. at.1 < mesh.now.places) }
+{
+    let _ = case;
+    let _ = mesh;
+    folds_tell_rows();
+    numbers_tell_places();
+    fold.fault()
 }
