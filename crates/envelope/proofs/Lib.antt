@@ -3,6 +3,7 @@ pub mod FirstBad
 pub mod Greatest
 pub mod Joined
 pub mod Placed
+pub mod Probed
 pub mod Sampled
 pub mod Standing
 pub mod Noted

@@ -6,17 +6,16 @@ use Rattle.std.proofs.lemmas.Bool.{le-leb, lt-leb}
 use Rattle.std.proofs.lemmas.List.{get_or_default}
 use Rattle.case_model.specs.declared.points.Point.{Point}
 use Rattle.case_model.specs.declared.points.Point.TheVariants.{Bad}
-use Rattle.envelope.specs.Cells.{is_within, cell_of, span_of, first_of_span, IsRising, IsLaidOut, IsPlaced, AreInSpan, AreInOneSpan}
+use Rattle.envelope.specs.Cells.{is_within, bases_of, cell_of, span_of, first_of_span, IsRising, IsLaidOut, IsPlaced, AreInSpan, AreInOneSpan}
 use Rattle.envelope.proofs.CellLaws.{within-span}
 use Rattle.envelope.specs.Extremes.{first_of}
-use Rattle.envelope.specs.Changes.{AreSameCells}
-use Rattle.envelope.specs.Folds.{spans_of, steps_of}
+use Rattle.envelope.specs.Folds.{IsSameFold, spans_of, steps_of}
 use Rattle.envelope.specs.Layout.{IsHeld, cell_in, count_of_cells}
 use Rattle.envelope.specs.Notings.{Noting, Noted, only, noted, line_noted, union, Agree}
 use Rattle.envelope.specs.Notings.Noting.{OfPoint}
 use Rattle.envelope.specs.declared.folds.Fold.{Fold}
 use Rattle.envelope.proofs.Noted.{only-here, only-then, only-there}
-use Rattle.envelope.proofs.Placed.{placed, at-most, or-over}
+use Rattle.envelope.proofs.Placed.{placed, at-most, laid-out, or-over}
 use Rattle.envelope.proofs.RowFolds.{held-same}
 use Rattle.envelope.proofs.Sampled.{alone, decided}
 
@@ -62,10 +61,12 @@ cell-inside spans bases place r o w =
     let a = o.apart (span_of spans place) (length spans) p.there (omega arith) in
     omega arith
 
-pub same-cells : (a b c : Fold) → AreSameCells a b → AreSameCells b c → AreSameCells a c
-same-cells a b c p q = record {
-  same = record { spans_are = q.same.spans_are ∙ p.same.spans_are; probes_are = q.same.probes_are ∙ p.same.probes_are; steps_are = q.same.steps_are ∙ p.same.steps_are; every_is = q.same.every_is ∙ p.same.every_is };
-  bases_are = q.bases_are ∙ p.bases_are;
+pub same-then : (a b c : Fold) → IsSameFold a b → IsSameFold b c → IsSameFold a c
+same-then a b c p q = record {
+  spans_are = q.spans_are ∙ p.spans_are;
+  probes_are = q.probes_are ∙ p.probes_are;
+  steps_are = q.steps_are ∙ p.steps_are;
+  every_is = q.every_is ∙ p.every_is;
 }
 
 -- ---- the first points of a line
@@ -174,18 +175,18 @@ held-whole fold map step first i points e p =
 
 -- ---- the cells of a fold in which the first points were noted
 
-pub still-within : (old fold : Fold) (first count i : ℕ) → AreSameCells old fold → AreInOneSpan (spans_of old) first count → i < count → is_within (spans_of fold) (first + i) ≡ true
-still-within old fold first count i e p h = subst (λ s. is_within s (first + i) ≡ true) (sym e.same.spans_are) (line-within (spans_of old) first count i p h)
+pub still-within : (old fold : Fold) (first count i : ℕ) → IsSameFold old fold → AreInOneSpan (spans_of old) first count → i < count → is_within (spans_of fold) (first + i) ≡ true
+still-within old fold first count i e p h = subst (λ s. is_within s (first + i) ≡ true) (sym e.spans_are) (line-within (spans_of old) first count i p h)
 
-pub still-cell : (old fold : Fold) (first count i cell : ℕ) → AreSameCells old fold → AreInOneSpan (spans_of old) first count → i < count → cell ≡ cell_in old first → cell + i ≡ cell_in fold (first + i)
+pub still-cell : (old fold : Fold) (first count i cell : ℕ) → IsSameFold old fold → AreInOneSpan (spans_of old) first count → i < count → cell ≡ cell_in old first → cell + i ≡ cell_in fold (first + i)
 still-cell old fold first count i cell e p h c =
-    ap (λ n. n + i) c ∙ cell-on (spans_of old) old.bases.items first count i old.rising p h
-    ∙ ap (λ s. cell_of s old.bases.items (first + i)) (sym e.same.spans_are) ∙ ap (λ b. cell_of (spans_of fold) b (first + i)) (sym e.bases_are)
+    ap (λ n. n + i) c ∙ cell-on (spans_of old) (bases_of old.spans.items) first count i old.rising p h
+    ∙ ap (λ s. cell_of s (bases_of s) (first + i)) (sym e.spans_are)
 
-pub still-inside : (old fold : Fold) (first count i cell : ℕ) → AreSameCells old fold → AreInOneSpan (spans_of old) first count → i < count → cell ≡ cell_in old first → cell + i < count_of_cells fold
+pub still-inside : (old fold : Fold) (first count i cell : ℕ) → IsSameFold old fold → AreInOneSpan (spans_of old) first count → i < count → cell ≡ cell_in old first → cell + i < count_of_cells fold
 still-inside old fold first count i cell e p h c =
     subst (λ n. n < count_of_cells fold) (sym (still-cell old fold first count i cell e p h c))
-    (cell-inside (spans_of fold) fold.bases.items (first + i) fold.rising fold.laid_out (still-within old fold first count i e p h))
+    (cell-inside (spans_of fold) (bases_of fold.spans.items) (first + i) fold.rising (laid-out fold.spans.items fold.rising) (still-within old fold first count i e p h))
 
 -- ---- a line that changes nothing
 

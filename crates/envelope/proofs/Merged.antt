@@ -3,11 +3,11 @@ use Rattle.std.proofs.Common.{◌≡◌, ◌≢◌, ◌∙◌, ℕ, ◌+◌, ◌
 use Rattle.std.specs.List.{filter}
 use Rattle.std.proofs.lemmas.List.{get_or_read}
 use Rattle.case_model.specs.Samples.{Sample}
-use Rattle.envelope.specs.Cells.{is_within, cell_of, first_of_span, end_of_span, IsRising}
+use Rattle.envelope.specs.Cells.{is_within, cell_of, first_of_span, end_of_span, IsRising, bases_of}
 use Rattle.envelope.specs.Extremes.{either, HasExtreme, unmet}
 use Rattle.envelope.specs.Changes.{AreJoined, IsMergeable, IsSameLayout}
 use Rattle.envelope.specs.Folds.{spans_of, steps_of, every_of, probes_of}
-use Rattle.envelope.specs.Layout.{IsStanding, StandsAt, IsHeld, line_in}
+use Rattle.envelope.specs.Layout.{cell_in, IsStanding, StandsAt, IsHeld, line_in, marks_in, lines_in}
 use Rattle.envelope.specs.Faults.{HasFault}
 use Rattle.envelope.specs.Notings.{Noting, Noted, union, Agree, IsInside, column, taken, is_bad_noting}
 use Rattle.envelope.specs.Lines.{HasSamples}
@@ -15,17 +15,16 @@ use Rattle.envelope.specs.declared.extremes.Extreme.{Extreme}
 use Rattle.envelope.specs.declared.folds.Fold.{Fold}
 use Rattle.envelope.specs.declared.samples.Sample.{Sample as Kept}
 use Rattle.envelope.proofs.Noted.{taken-either, nothing-more, columns-agree}
-use Rattle.envelope.proofs.Placed.{within-index, or-over}
+use Rattle.envelope.proofs.Placed.{within-index, or-over, laid-out}
 use Rattle.envelope.proofs.Sampled.{decided, one-place}
 use Rattle.envelope.proofs.Standing.{same-standing, standing-here, standing-elsewhere, line-width}
 
 pub same-layout : (fold : Fold) → IsSameLayout fold fold
-same-layout fold = record { same = record { spans_are = refl; probes_are = refl; steps_are = refl; every_is = refl }; bases_are = refl; marks_are = refl; fault_is = refl }
+same-layout fold = record { same = record { spans_are = refl; probes_are = refl; steps_are = refl; every_is = refl }; marks_are = refl; fault_is = refl }
 
 pub layout-on : (a b c : Fold) → IsSameLayout a b → IsSameLayout b c → IsSameLayout a c
 layout-on a b c h k = record {
   same = record { spans_are = k.same.spans_are ∙ h.same.spans_are; probes_are = k.same.probes_are ∙ h.same.probes_are; steps_are = k.same.steps_are ∙ h.same.steps_are; every_is = k.same.every_is ∙ h.same.every_is };
-  bases_are = k.bases_are ∙ h.bases_are;
   marks_are = k.marks_are ∙ h.marks_are;
   fault_is = k.fault_is ∙ h.fault_is;
 }
@@ -60,9 +59,8 @@ joined-on a other b c low mid high g l m p q = record {
 }
 
 same-line : (a b : Fold) (k : ℕ) → IsSameLayout a b → line_in b k ≡ line_in a k
-same-line a b k l = ap (λ m. get_or m (cell_of b.spans.items b.bases.items k) None) l.marks_are
-    ∙ ap (λ s. get_or a.marks.items (cell_of s b.bases.items k) None) l.same.spans_are
-    ∙ ap (λ s. get_or a.marks.items (cell_of a.spans.items s k) None) l.bases_are
+same-line a b k l = ap (λ m. get_or m (cell_of b.spans.items (bases_of b.spans.items) k) None) l.marks_are
+    ∙ ap (λ s. get_or (marks_in a) (cell_of s (bases_of s) k) None) l.same.spans_are
 
 pub mergeable-still : (a b other : Fold) → IsSameLayout a b → IsMergeable a other → IsMergeable b other
 mergeable-still a b other l m = record {
@@ -133,11 +131,11 @@ below-limit spans k limit low w =
 place-merged : (old other new : Fold) (map more : Noted) (limit k : ℕ) → AreJoined old other new 0 limit → ((i : ℕ) → i < length (spans_of other) → end_of_span (spans_of other) i ≤ limit) → Agree map more → IsInside (spans_of other) more
     → IsHeld old map → IsHeld other more → is_within (spans_of old) k ≡ true → (is_within (spans_of other) k ≡ true) ⊎ (is_within (spans_of other) k ≡ false) → StandsAt new k (column (union map more) k)
 place-merged old other new map more limit k j low g n p q w (inl v) =
-    same-standing new.spans.items new.bases.items new.steps new.every new.marks.items new.cells.items new.samples.items k (either (column map k) (column more k)) (column (union map more) k)
+    same-standing new.spans.items (bases_of new.spans.items) new.steps new.every (marks_in new) new.cells.items (lines_in new) k (either (column map k) (column more k)) (column (union map more) k)
     (λ s l. taken-either (map s k) (more s k) (g s k))
     (j.joined k v (omega arith) (below-limit (spans_of other) k limit low v) (column map k) (column more k) (columns-agree map more k g) (p.places k w) (q.places k v))
 place-merged old other new map more limit k j low g n p q w (inr v) =
-    same-standing new.spans.items new.bases.items new.steps new.every new.marks.items new.cells.items new.samples.items k (column map k) (column (union map more) k)
+    same-standing new.spans.items (bases_of new.spans.items) new.steps new.every (marks_in new) new.cells.items (lines_in new) k (column map k) (column (union map more) k)
     (λ s l. nothing-more (map s k) (more s k) (g s k) (ap taken (n s k v)))
     (j.kept k w (inr (inr v)) (column map k) (p.places k w))
 
@@ -190,12 +188,12 @@ some-or-none (Some line) = inr (line, refl)
 sampled-there : (fold other : Fold) (k line : ℕ) → probes_of other ≡ filter (is_within (spans_of other)) (probes_of fold) → is_within (spans_of fold) k ≡ true → is_within (spans_of other) k ≡ true
     → line_in fold k ≡ Some line → line_in other k ≢ None
 sampled-there fold other k line e wf wo h =
-    let o = fold.marked.own (cell_of fold.spans.items fold.bases.items k) line h in
-    let same = one-place fold.spans.items fold.bases.items (get_or fold.probes.items line 0) k fold.rising fold.laid_out (fold.probed line o.0) wf o.1 in
+    let o = fold.marked.own (cell_of fold.spans.items (bases_of fold.spans.items) k) line h in
+    let same = one-place fold.spans.items (bases_of fold.spans.items) (get_or (probes_of fold) line 0) k fold.rising (laid-out fold.spans.items fold.rising) (fold.probed line o.0) wf o.1 in
     let f = filtered-index (is_within (spans_of other)) (probes_of fold) line o.0 (subst (λ z. is_within (spans_of other) z ≡ true) (sym same) wo) in
-    let there : f.0 < length other.probes.items = subst (λ xs. f.0 < length xs) (sym e) f.1 in
-    let at : get_or other.probes.items f.0 0 ≡ k = ap (λ xs. get_or xs f.0 0) e ∙ f.2 ∙ same in
-    subst (λ z. get_or other.marks.items (cell_of other.spans.items other.bases.items z) None ≢ None) at (other.marked.each f.0 there)
+    let there : f.0 < length (probes_of other) = subst (λ xs. f.0 < length xs) (sym e) f.1 in
+    let at : get_or (probes_of other) f.0 0 ≡ k = ap (λ xs. get_or xs f.0 0) e ∙ f.2 ∙ same in
+    subst (λ z. get_or (marks_in other) (cell_of other.spans.items (bases_of other.spans.items) z) None ≢ None) at (other.marked.each f.0 there)
 
 pub mergeable : (fold other : Fold) → ((k : ℕ) → is_within (spans_of other) k ≡ true → is_within (spans_of fold) k ≡ true) → probes_of other ≡ filter (is_within (spans_of other)) (probes_of fold)
     → steps_of other ≡ steps_of fold → every_of other ≡ every_of fold → IsMergeable fold other
@@ -211,44 +209,60 @@ apart-from k place spans w (inl h) e = omega arith
 apart-from k place spans w (inr (inl h)) e = omega arith
 apart-from k place spans w (inr (inr h)) e = both-ways (is_within spans place) w (sym (ap (is_within spans) e) ∙ h)
 
-extreme-of : (o r : Fold) (place from : ℕ) (extreme : Extreme) (g : ℕ → Option Sample) → IsMergeable o r → from ≡ cell_of r.spans.items r.bases.items place → from < length r.marks.items
+extreme-of : (o r : Fold) (place from : ℕ) (extreme : Extreme) (g : ℕ → Option Sample) → IsMergeable o r → from ≡ cell_of r.spans.items (bases_of r.spans.items) place → from < length r.cells.items
     → extreme ≡ get_or r.cells.items from extreme → StandsAt r place g → HasExtreme g o.steps extreme
 extreme-of o r place from extreme g m e l h t =
-    let n : from < length r.cells.items = subst (λ z. from < z) (r.marks_fit ∙ sym r.filled) l in
     subst (λ z. HasExtreme g z extreme) m.steps_are
-    (subst (λ x. HasExtreme g r.steps x) (sym (get_or_read r.cells.items from extreme n h unmet)) (subst (λ z. HasExtreme g r.steps (get_or r.cells.items z unmet)) (sym e) t.envelope))
+    (subst (λ x. HasExtreme g r.steps x) (sym (get_or_read r.cells.items from extreme l h unmet)) (subst (λ z. HasExtreme g r.steps (get_or r.cells.items z unmet)) (sym e) t.envelope))
 
-line-of : (o r : Fold) (place from more : ℕ) (g : ℕ → Option Sample) → IsMergeable o r → from ≡ cell_of r.spans.items r.bases.items place → get_or r.marks.items from None ≡ Some more → StandsAt r place g
-    → HasSamples g o.steps o.every (get_or r.samples.items more [])
+line-of : (o r : Fold) (place from more : ℕ) (g : ℕ → Option Sample) → IsMergeable o r → from ≡ cell_of r.spans.items (bases_of r.spans.items) place → get_or (marks_in r) from None ≡ Some more → StandsAt r place g
+    → HasSamples g o.steps o.every (get_or (lines_in r) more [])
 line-of o r place from more g m e h t =
-    subst (λ n. HasSamples g n o.every (get_or r.samples.items more [])) m.steps_are
-    (subst (λ n. HasSamples g r.steps n (get_or r.samples.items more [])) m.every_is (t.line_has more (sym (ap (λ z. get_or r.marks.items z None) e) ∙ h)))
+    subst (λ n. HasSamples g n o.every (get_or (lines_in r) more [])) m.steps_are
+    (subst (λ n. HasSamples g r.steps n (get_or (lines_in r) more [])) m.every_is (t.line_has more (sym (ap (λ z. get_or (marks_in r) z None) e) ∙ h)))
 
 pub place-joined : (o r : Fold) (new : List Extreme) (lines : List (List (Option Kept))) (place cell from k : ℕ) (extreme : Extreme) (f g : ℕ → Option Sample) → IsMergeable o r
-    → cell ≡ cell_of o.spans.items o.bases.items place → from ≡ cell_of r.spans.items r.bases.items place → from < length r.marks.items → extreme ≡ get_or r.cells.items from extreme
+    → cell ≡ cell_of o.spans.items (bases_of o.spans.items) place → from ≡ cell_of r.spans.items (bases_of r.spans.items) place → from < length r.cells.items → extreme ≡ get_or r.cells.items from extreme
     → (HasExtreme f o.steps (get_or o.cells.items cell unmet) → HasExtreme g o.steps extreme → HasExtreme (either f g) o.steps (get_or new cell unmet))
-    → ((line : ℕ) → get_or o.marks.items cell None ≡ Some line → HasSamples f o.steps o.every (get_or o.samples.items line []) → ((more : ℕ) → get_or r.marks.items from None ≡ Some more → HasSamples g o.steps o.every (get_or r.samples.items more []))
+    → ((line : ℕ) → get_or (marks_in o) cell None ≡ Some line → HasSamples f o.steps o.every (get_or (lines_in o) line []) → ((more : ℕ) → get_or (marks_in r) from None ≡ Some more → HasSamples g o.steps o.every (get_or (lines_in r) more []))
     → HasSamples (either f g) o.steps o.every (get_or lines line []))
-    → place ≤ k → k < place + 1 → StandsAt o k f → StandsAt r k g → IsStanding o.spans.items o.bases.items o.steps o.every o.marks.items new lines k (either f g)
+    → place ≤ k → k < place + 1 → StandsAt o k f → StandsAt r k g → IsStanding o.spans.items (bases_of o.spans.items) o.steps o.every (marks_in o) new lines k (either f g)
 place-joined o r new lines place cell from k extreme f g m e e2 l h join line low high s t =
     let q : k ≡ place = omega arith in
     let s2 = subst (λ z. StandsAt o z f) q s in
     let t2 = subst (λ z. StandsAt r z g) q t in
-    subst (λ z. IsStanding o.spans.items o.bases.items o.steps o.every o.marks.items new lines z (either f g)) (sym q)
-    (standing-here o.spans.items o.bases.items o.steps o.every o.marks.items o.cells.items new o.samples.items lines place cell f g e
+    subst (λ z. IsStanding o.spans.items (bases_of o.spans.items) o.steps o.every (marks_in o) new lines z (either f g)) (sym q)
+    (standing-here o.spans.items (bases_of o.spans.items) o.steps o.every (marks_in o) o.cells.items new (lines_in o) lines place cell f g e
     (λ a. join a (extreme-of o r place from extreme g m e2 l h t2))
     (λ n b a. line n b a (λ more d. line-of o r place from more g m e2 d t2)) s2)
 
 pub place-kept : (o r : Fold) (new : List Extreme) (lines : List (List (Option Kept))) (place cell k : ℕ) (f : ℕ → Option Sample) → IsMergeable o r → is_within (spans_of r) place ≡ true
-    → cell ≡ cell_of o.spans.items o.bases.items place
+    → cell ≡ cell_of o.spans.items (bases_of o.spans.items) place
     → ((c : ℕ) → c ≢ cell → get_or new c unmet ≡ get_or o.cells.items c unmet)
-    → ((line : ℕ) → get_or o.marks.items cell None ≢ Some line → get_or lines line [] ≡ get_or o.samples.items line [])
-    → is_within (spans_of o) k ≡ true → (k < place) ⊎ (place + 1 ≤ k) ⊎ (is_within (spans_of r) k ≡ false) → StandsAt o k f → IsStanding o.spans.items o.bases.items o.steps o.every o.marks.items new lines k f
+    → ((line : ℕ) → get_or (marks_in o) cell None ≢ Some line → get_or lines line [] ≡ get_or (lines_in o) line [])
+    → is_within (spans_of o) k ≡ true → (k < place) ⊎ (place + 1 ≤ k) ⊎ (is_within (spans_of r) k ≡ false) → StandsAt o k f → IsStanding o.spans.items (bases_of o.spans.items) o.steps o.every (marks_in o) new lines k f
 place-kept o r new lines place cell k f m w e others line wk od s =
-    standing-elsewhere o.spans.items o.bases.items o.probes.items o.steps o.every o.marks.items o.cells.items new o.samples.items lines place cell k (length o.probes.items) f
-    o.rising o.laid_out o.marked (m.inside place w) wk (apart-from k place (spans_of r) w od) e others line s
+    standing-elsewhere o.spans.items (bases_of o.spans.items) (probes_of o) o.steps o.every (marks_in o) o.cells.items new (lines_in o) lines place cell k (length (probes_of o)) f
+    o.rising (laid-out o.spans.items o.rising) o.marked (m.inside place w) wk (apart-from k place (spans_of r) w od) e others line s
 
-pub same-width : (o r : Fold) (cell from line more : ℕ) → IsMergeable o r → get_or o.marks.items cell None ≡ Some line → get_or r.marks.items from None ≡ Some more
-    → length (get_or r.samples.items more []) ≡ length (get_or o.samples.items line [])
+pub same-width : (o r : Fold) (cell from line more : ℕ) → IsMergeable o r → get_or (marks_in o) cell None ≡ Some line → get_or (marks_in r) from None ≡ Some more
+    → length (get_or (lines_in r) more []) ≡ length (get_or (lines_in o) line [])
 same-width o r cell from line more m h k =
     line-width r from more k ∙ ap (λ n. n / r.every + 1) m.steps_are ∙ ap (λ n. o.steps / n + 1) m.every_is ∙ sym (line-width o cell line h)
+
+-- the other fold has samples of a place that is sampled here
+pub more-there : (o r : Fold) (place cell from line : ℕ) → IsMergeable o r → is_within (spans_of r) place ≡ true → cell ≡ cell_in o place → from ≡ cell_in r place
+    → get_or (marks_in o) cell None ≡ Some line → (more : ℕ) × (get_or (marks_in r) from None ≡ Some more)
+more-there o r place cell from line m w e e2 q =
+    let s = m.sampled_too place w (λ n. let a = sym q ∙ ap (λ z. get_or (marks_in o) z None) e ∙ n in cc) in
+    elim (some-or-none (line_in r place)) [
+      | inl n ↦ absurd (s n)
+      | inr l ↦ (l.0, ap (λ z. get_or (marks_in r) z None) e2 ∙ l.1)
+    ]
+
+-- the cell that is found of a fold's own spans
+pub cell-found : (fold : Fold) (spans : List (ℕ × ℕ)) (place cell : ℕ) → spans ≡ fold.spans.items → cell ≡ cell_of spans (bases_of spans) place → cell ≡ cell_in fold place
+cell-found fold spans place cell s e = e ∙ ap (λ z. cell_of z (bases_of z) place) s
+
+pub cell-filled : (fold : Fold) (spans : List (ℕ × ℕ)) (cell : ℕ) → spans ≡ fold.spans.items → cell < get_or (bases_of spans) (length spans) 0 → cell < length fold.cells.items
+cell-filled fold spans cell s h = subst (λ n. cell < n) (sym fold.filled) (subst (λ z. cell < get_or (bases_of z) (length z) 0) s h)

@@ -3,11 +3,11 @@ use Rattle.std.proofs.Common.{◌≡◌, ◌≢◌, ◌∙◌, ℕ, ◌<◌, ◌
 use Rattle.std.specs.Prelude.{◌==◌, ◌&&◌, if◌then◌else◌}
 use Rattle.std.proofs.Math.Bool.{and-false}
 use Rattle.case_model.specs.Samples.{Sample}
-use Rattle.envelope.specs.Cells.{is_within}
+use Rattle.envelope.specs.Cells.{is_within, bases_of}
 use Rattle.envelope.specs.Extremes.{first_of, either, AgreeAlong}
 use Rattle.envelope.specs.Changes.{IsKeptAt, IsSameLayout}
 use Rattle.envelope.specs.Folds.{spans_of, steps_of}
-use Rattle.envelope.specs.Layout.{StandsAt, IsHeld}
+use Rattle.envelope.specs.Layout.{StandsAt, IsHeld, marks_in, lines_in}
 use Rattle.envelope.specs.Faults.{HasFault}
 use Rattle.envelope.specs.Notings.{Noting, Noted, only, noted, union, Agree, column, taken, is_bad_noting}
 use Rattle.envelope.specs.declared.folds.Fold.{Fold}
@@ -97,7 +97,7 @@ past-good spans last step place x h = λ s k l w. ap is_bad_noting (past-only la
 pub places-kept : (fold : Fold) (map more : Noted) → Agree map more → ((s k : ℕ) → s ≤ steps_of fold → taken (more s k) ≡ None)
     → ((k : ℕ) → is_within (spans_of fold) k ≡ true → StandsAt fold k (column map k)) → (k : ℕ) → is_within (spans_of fold) k ≡ true → StandsAt fold k (column (union map more) k)
 places-kept fold map more g h p k w =
-    same-standing fold.spans.items fold.bases.items fold.steps fold.every fold.marks.items fold.cells.items fold.samples.items k (column map k) (column (union map more) k)
+    same-standing fold.spans.items (bases_of fold.spans.items) fold.steps fold.every (marks_in fold) fold.cells.items (lines_in fold) k (column map k) (column (union map more) k)
     (λ s l. nothing-more (map s k) (more s k) (g s k) (h s k l)) (p k w)
 
 pub noted-past : (fold : Fold) (map : Noted) (step place : ℕ) (x : Noting) → steps_of fold < step → Agree map (only step place x) → IsHeld fold map → IsHeld fold (noted map step place x)
@@ -111,12 +111,12 @@ place-noted : (old new : Fold) (step place : ℕ) (s : Sample) (map : Noted) (x 
     → StandsAt new k (column (noted map step place x) k)
 place-noted old new step place s map x k n t g p w (inl e) =
     subst (λ i. StandsAt new i (column (noted map step place x) i)) (sym e)
-    (same-standing new.spans.items new.bases.items new.steps new.every new.marks.items new.cells.items new.samples.items place (either (column map place) (column (only step place x) place)) (column (noted map step place x) place)
+    (same-standing new.spans.items (bases_of new.spans.items) new.steps new.every (marks_in new) new.cells.items (lines_in new) place (either (column map place) (column (only step place x) place)) (column (noted map step place x) place)
     (λ u l. taken-either (map u place) (only step place x u place) (g u place))
     (n.here (column map place) (column (only step place x) place) (columns-agree map (only step place x) place g)
     (ap taken (only-here step place x) ∙ t) (λ u h. ap taken (only-then step place x u place h)) (p place (subst (λ i. is_within (spans_of old) i ≡ true) e w))))
 place-noted old new step place s map x k n t g p w (inr e) =
-    same-standing new.spans.items new.bases.items new.steps new.every new.marks.items new.cells.items new.samples.items k (column map k) (column (noted map step place x) k)
+    same-standing new.spans.items (bases_of new.spans.items) new.steps new.every (marks_in new) new.cells.items (lines_in new) k (column map k) (column (noted map step place x) k)
     (λ u l. nothing-more (map u k) (only step place x u k) (g u k) (ap taken (only-there step place x u k e)))
     (n.others k w e (column map k) (p k w))
 

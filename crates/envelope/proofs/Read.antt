@@ -3,11 +3,12 @@ use Rattle.std.proofs.Common.{◌≡◌, ◌≢◌, ◌∙◌, ℕ, ◌/◌, ◌
 use Rattle.std.proofs.lemmas.Bool.{le-leb, lt-leb}
 use Rattle.std.proofs.lemmas.List.{get_or-replicate, length-replicate, get_or_past}
 use Rattle.std.proofs.Math.Bool.{and-false}
-use Rattle.envelope.specs.Cells.{cell_of}
+use Rattle.envelope.specs.Folds.{probes_of}
+use Rattle.envelope.specs.Cells.{cell_of, bases_of}
 use Rattle.envelope.specs.Extremes.{unmet}
-use Rattle.envelope.specs.Layout.{IsHeld, line_in}
-use Rattle.envelope.specs.Kept.{entry_of, sample_kept}
-use Rattle.envelope.specs.Lines.{told}
+use Rattle.envelope.specs.Layout.{IsHeld, line_in, marks_in, lines_in}
+use Rattle.envelope.specs.Kept.{sample_kept}
+use Rattle.envelope.specs.Lines.{entry_of, told}
 use Rattle.envelope.specs.Notings.{Noted, column, taken, sample_over}
 use Rattle.envelope.specs.declared.extremes.Extreme.{Extreme}
 use Rattle.envelope.specs.declared.folds.Fold.{Fold}
@@ -27,19 +28,19 @@ pub between-sampled : (map : Noted) (every last place step : ℕ) → step % eve
 unfolding sample_over
 between-sampled map every last place step h = rw (ne_eqb (step % every) 0 h) refl
 
-pub sampled : (fold : Fold) (map : Noted) (probe step line : ℕ) → IsHeld fold map → probe < length fold.probes.items → step ≤ fold.steps → step % fold.every ≡ 0
-    → get_or fold.marks.items (cell_of fold.spans.items fold.bases.items (get_or fold.probes.items probe 0)) None ≡ Some line
-    → told (get_or (get_or fold.samples.items line []) (step / fold.every) None) ≡ sample_over map fold.every fold.steps (get_or fold.probes.items probe 0) step
+pub sampled : (fold : Fold) (map : Noted) (probe step line : ℕ) → IsHeld fold map → probe < length (probes_of fold) → step ≤ fold.steps → step % fold.every ≡ 0
+    → get_or (marks_in fold) (cell_of fold.spans.items (bases_of fold.spans.items) (get_or (probes_of fold) probe 0)) None ≡ Some line
+    → told (get_or (get_or (lines_in fold) line []) (step / fold.every) None) ≡ sample_over map fold.every fold.steps (get_or (probes_of fold) probe 0) step
 sampled fold map probe step line p l le m h =
     let w = whole-steps step fold.every m in
-    (p.places (get_or fold.probes.items probe 0) (fold.probed probe l)).line_has line h (step / fold.every)
-    (in-line fold (cell_of fold.spans.items fold.bases.items (get_or fold.probes.items probe 0)) line step h le) (omega arith)
-    ∙ ap (column map (get_or fold.probes.items probe 0)) w
-    ∙ sym (sampled-then map fold.every fold.steps (get_or fold.probes.items probe 0) step m le)
+    (p.places (get_or (probes_of fold) probe 0) (fold.probed probe l)).line_has line h (step / fold.every)
+    (in-line fold (cell_of fold.spans.items (bases_of fold.spans.items) (get_or (probes_of fold) probe 0)) line step h le) (omega arith)
+    ∙ ap (column map (get_or (probes_of fold) probe 0)) w
+    ∙ sym (sampled-then map fold.every fold.steps (get_or (probes_of fold) probe 0) step m le)
 
 -- what is kept of a probe at a step that is sampled, and at others
 pub kept-then : (fold : Fold) (probe step : ℕ) → step % fold.every ≡ 0 → step ≤ fold.steps
-    → sample_kept fold probe step ≡ told (entry_of fold.samples.items (line_in fold (get_or fold.probes.items probe 0)) (step / fold.every))
+    → sample_kept fold probe step ≡ told (entry_of (lines_in fold) (line_in fold (get_or (probes_of fold) probe 0)) (step / fold.every))
 unfolding sample_kept
 kept-then fold probe step h l = rw (eq-eqb (step % fold.every) 0 h, le-leb step fold.steps l) refl
 
@@ -52,9 +53,9 @@ unfolding sample_kept
 kept-between fold probe step h = rw (ne_eqb (step % fold.every) 0 h) refl
 
 pub kept-line : (fold : Fold) (probe step line : ℕ) → step % fold.every ≡ 0 → step ≤ fold.steps
-    → get_or fold.marks.items (cell_of fold.spans.items fold.bases.items (get_or fold.probes.items probe 0)) None ≡ Some line
-    → told (get_or (get_or fold.samples.items line []) (step / fold.every) None) ≡ sample_kept fold probe step
-kept-line fold probe step line h l m = sym (kept-then fold probe step h l ∙ ap (λ o. told (entry_of fold.samples.items o (step / fold.every))) m)
+    → get_or (marks_in fold) (cell_of fold.spans.items (bases_of fold.spans.items) (get_or (probes_of fold) probe 0)) None ≡ Some line
+    → told (get_or (get_or (lines_in fold) line []) (step / fold.every) None) ≡ sample_kept fold probe step
+kept-line fold probe step line h l m = sym (kept-then fold probe step h l ∙ ap (λ o. told (entry_of (lines_in fold) o (step / fold.every))) m)
 
 pub all-unmet : (n i : ℕ) → get_or (replicate n unmet) i unmet ≡ unmet
 all-unmet n i = elim (or-over n i) [

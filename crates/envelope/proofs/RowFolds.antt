@@ -1,5 +1,5 @@
 -- What a fold keeps that was told the rows of a law.
-use Rattle.std.proofs.Common.{◌≡◌, ◌≢◌, ◌∙◌, ℕ, ◌%◌, ◌<◌, ◌≤◌, ◌⊎◌, inl, inr, ℤ, refl, sym, ap, subst, Bool, true, false, List, [], ◌∷◌, length, map, get_or, Option, Some, None, arith, eq-eqb, ne_eqb}
+use Rattle.std.proofs.Common.{◌≡◌, ◌≢◌, ◌∙◌, ℕ, ◌%◌, ◌<◌, ◌≤◌, ◌⊎◌, inl, inr, ℤ, refl, sym, ap, subst, true, false, List, [], ◌∷◌, length, map, get_or, Option, Some, None, arith, eq-eqb, ne_eqb}
 use Rattle.std.specs.Prelude.{◌≤ℤ◌, ◌<ℤ◌}
 use Rattle.std.proofs.lemmas.Bool.{false≢true, le-leb, lt-leb, false_from_ne_true}
 use Rattle.std.proofs.lemmas.Int.{ints}
@@ -22,12 +22,12 @@ use Rattle.case_model.proofs.PlaceLaws.{bad-at_node, bad-at_place, length-bad_pl
 use Rattle.case_model.specs.Places.{is_bad, is_bad_state, bad_places}
 use Rattle.case_model.specs.Rows.{Row, row}
 use Rattle.case_model.specs.Samples.{Sample, taken_at, point_sample, node_sample, sample, IsEnvelope}
-use Rattle.envelope.specs.Cells.{is_within}
+use Rattle.envelope.specs.Cells.{is_within, bases_of}
 use Rattle.envelope.proofs.CellLaws.{within-first, below-first}
 use Rattle.envelope.specs.Extremes.{HasExtreme, IsEnvelopeOf, extreme_over}
 use Rattle.envelope.specs.Faults.{HasFault}
 use Rattle.envelope.specs.Folds.{spans_of, probes_of, steps_of, every_of}
-use Rattle.envelope.specs.Layout.{IsHeld}
+use Rattle.envelope.specs.Layout.{IsHeld, marks_in, lines_in}
 use Rattle.envelope.specs.Kept.{extreme_kept, sample_kept}
 use Rattle.envelope.specs.Notings.{Noted, column, taken, is_bad_noting}
 use Rattle.envelope.specs.RowFolds.{HasRows, IsFoldOfCase}
@@ -57,7 +57,7 @@ is-bad-same spans last map more (Some fault) h p = record {
 pub held-same : (fold : Fold) (map more : Noted) → ((s k : ℕ) → s ≤ steps_of fold → is_within (spans_of fold) k ≡ true → map s k ≡ more s k) → IsHeld fold map → IsHeld fold more
 held-same fold map more h p = record {
   places = λ k w.
-      same-standing fold.spans.items fold.bases.items fold.steps fold.every fold.marks.items fold.cells.items fold.samples.items k (column map k) (column more k)
+      same-standing fold.spans.items (bases_of fold.spans.items) fold.steps fold.every (marks_in fold) fold.cells.items (lines_in fold) k (column map k) (column more k)
       (λ s l. ap taken (h s k l w)) (p.places k w);
   first_fault = is-bad-same (spans_of fold) (steps_of fold) map more fold.fault h p.first_fault;
 }

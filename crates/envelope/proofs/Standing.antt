@@ -1,13 +1,14 @@
 -- What a fold stands for after one place was changed.
 use Rattle.std.proofs.Common.{◌≡◌, ◌≢◌, ◌∙◌, ℕ, ◌+◌, ◌*◌, ◌/◌, ◌<◌, ◌≤◌, sym, ap, subst, true, List, [], length, get_or, replicate, Option, Some, None, arith}
 use Rattle.std.proofs.lemmas.Int.{ints}
-use Rattle.std.proofs.lemmas.List.{get_or_read, get_or-replicate, length-replicate}
+use Rattle.std.proofs.lemmas.List.{get_or-replicate, length-replicate}
 use Rattle.std.proofs.lemmas.Nat.{le-div}
 use Rattle.std.proofs.Math.Nat.{div-mul-le_self}
 use Rattle.case_model.specs.Samples.{Sample}
+use Rattle.envelope.specs.Folds.{probes_of}
 use Rattle.envelope.specs.Cells.{is_within, cell_of, IsRising, IsLaidOut}
 use Rattle.envelope.specs.Extremes.{either, HasExtreme, unmet}
-use Rattle.envelope.specs.Layout.{IsStanding}
+use Rattle.envelope.specs.Layout.{IsStanding, marks_in, lines_in}
 use Rattle.envelope.specs.Lines.{told, HasSamples, IsMarked}
 use Rattle.envelope.specs.declared.extremes.Extreme.{Extreme}
 use Rattle.envelope.specs.declared.folds.Fold.{Fold}
@@ -45,32 +46,19 @@ same-standing spans bases steps every marks cells samples k f g h p = record {
   line_has = λ l q j b w. p.line_has l q j b w ∙ h (j * every) w;
 }
 
-pub line-there : (fold : Fold) (c line : ℕ) → get_or fold.marks.items c None ≡ Some line → line < length fold.samples.items
-line-there fold c line e = let a : line < length fold.probes.items = (fold.marked.own c line e).0 in let b = fold.lined.lines in omega arith
+pub line-there : (fold : Fold) (c line : ℕ) → get_or (marks_in fold) c None ≡ Some line → line < length (lines_in fold)
+line-there fold c line e = let a : line < length (probes_of fold) = (fold.marked.own c line e).0 in let b = fold.lined.lines in omega arith
 
-pub line-width : (fold : Fold) (c line : ℕ) → get_or fold.marks.items c None ≡ Some line → length (get_or fold.samples.items line []) ≡ fold.steps / fold.every + 1
+pub line-width : (fold : Fold) (c line : ℕ) → get_or (marks_in fold) c None ≡ Some line → length (get_or (lines_in fold) line []) ≡ fold.steps / fold.every + 1
 line-width fold c line e = fold.lined.widths line (fold.marked.own c line e).0
 
--- the cell that `find_cell` answers of this fold's own spans
-pub cell-fits : (fold : Fold) (spans : List (ℕ × ℕ)) (bases : List ℕ) (cell : ℕ) → spans ≡ fold.spans.items → bases ≡ fold.bases.items → cell < get_or bases (length spans) 0 → cell < length fold.marks.items
-cell-fits fold spans bases cell p q h = subst (λ n. cell < n) (ap (λ b. get_or b (length spans) 0) q ∙ ap (λ s. get_or fold.bases.items (length s) 0) p ∙ sym fold.marks_fit) h
-
-pub cell-same : (fold : Fold) (spans : List (ℕ × ℕ)) (bases : List ℕ) (cell place : ℕ) → spans ≡ fold.spans.items → bases ≡ fold.bases.items → cell ≡ cell_of spans bases place → cell ≡ cell_of fold.spans.items fold.bases.items place
-cell-same fold spans bases cell place p q h = h ∙ ap (λ s. cell_of s bases place) p ∙ ap (λ b. cell_of fold.spans.items b place) q
-
-pub mark-is : (fold : Fold) (cell : ℕ) (read : Option ℕ) → cell < length fold.marks.items → read ≡ get_or fold.marks.items cell read → get_or fold.marks.items cell None ≡ read
-mark-is fold cell read l h = sym (get_or_read fold.marks.items cell read l h None)
-
-pub in-line : (fold : Fold) (c line step : ℕ) → get_or fold.marks.items c None ≡ Some line → step ≤ fold.steps → step / fold.every < length (get_or fold.samples.items line [])
+pub in-line : (fold : Fold) (c line step : ℕ) → get_or (marks_in fold) c None ≡ Some line → step ≤ fold.steps → step / fold.every < length (get_or (lines_in fold) line [])
 in-line fold c line step e l =
     let w = line-width fold c line e in
     let m = div-mul-le_self step fold.every in
     let g : 1 ≤ fold.every = fold.sampled in
     let d : step / fold.every ≤ fold.steps / fold.every = le-div (step / fold.every) fold.steps fold.every (omega arith) (omega arith) in
     omega arith
-
-pub line-read : (fold : Fold) (c line : ℕ) (read : List (Option Kept)) → get_or fold.marks.items c None ≡ Some line → read ≡ get_or fold.samples.items line read → read ≡ get_or fold.samples.items line []
-line-read fold c line read e h = get_or_read fold.samples.items line read (line-there fold c line e) h []
 
 pub nothing-met : (f : ℕ → Option Sample) (last : ℕ) → ((s : ℕ) → f s ≡ None) → HasExtreme f last unmet
 nothing-met f last h = record { unmet = λ l s w. h s; filled = λ l. absurd (omega (arith, ints)) }
@@ -82,9 +70,3 @@ pub blank-line : (f : ℕ → Option Sample) (last every width : ℕ) (line : Li
 blank-line f last every width line h e = λ j l w.
     let m : j < width = omega (arith, ap length e, length-replicate {A = Option Kept}) in
     ap (λ xs. told (get_or xs j None)) e ∙ blank-at width j m ∙ sym (h (j * every))
-
-pub cell-counted : (fold : Fold) (cell : ℕ) → cell < get_or fold.bases.items (length fold.spans.items) 0 → cell < length fold.marks.items
-cell-counted fold cell h = subst (λ n. cell < n) (sym fold.marks_fit) h
-
-pub cells-same : (fold : Fold) (spans : List (ℕ × ℕ)) (bases : List ℕ) (cell : ℕ) → spans ≡ fold.spans.items → bases ≡ fold.bases.items → cell < get_or bases (length spans) 0 → cell < get_or fold.bases.items (length fold.spans.items) 0
-cells-same fold spans bases cell p q h = subst (λ b. cell < get_or b (length fold.spans.items) 0) q (subst (λ s. cell < get_or bases (length s) 0) p h)

@@ -1,31 +1,31 @@
 -- What a fold tells is what it has in memory.
 use Rattle.std.proofs.Common.{◌≡◌, ◌∙◌, ℕ, ◌*◌, ◌/◌, ◌%◌, ◌<◌, ◌≤◌, inl, inr, sym, ap, true, [], length, get_or, Some, None, arith, mul-div_cancel}
 use Rattle.std.proofs.Math.Nat.{mul-mod_left}
-use Rattle.envelope.specs.Cells.{is_within, cell_of}
-use Rattle.envelope.specs.Folds.{Stands, spans_of, steps_of}
+use Rattle.envelope.specs.Cells.{is_within, cell_of, bases_of}
+use Rattle.envelope.specs.Folds.{Stands, spans_of, steps_of, probes_of}
 use Rattle.envelope.specs.Kept.{extreme_kept, fault_kept, sample_kept}
-use Rattle.envelope.specs.Layout.{IsHeld}
+use Rattle.envelope.specs.Layout.{IsHeld, marks_in, lines_in}
 use Rattle.envelope.specs.Lines.{told, HasSamples}
 use Rattle.envelope.specs.Notings.{Noted, column, sample_over}
 use Rattle.envelope.specs.declared.folds.Fold.{Fold}
-use Rattle.envelope.proofs.Placed.{or-over}
+use Rattle.envelope.proofs.Placed.{or-over, laid-out}
 use Rattle.envelope.proofs.Read.{between-sampled, kept-between, kept-line, kept-past, line-by, past-sampled, sampled, sampled-then}
 use Rattle.envelope.proofs.RowFolds.{held-same}
 use Rattle.envelope.proofs.Sampled.{decided, one-place}
 
 -- a line of samples is that of a probe, of which the fold tells each sample
 line-held : (fold : Fold) (map : Noted) (k line : ℕ) → Stands fold map → is_within fold.spans.items k ≡ true
-    → get_or fold.marks.items (cell_of fold.spans.items fold.bases.items k) None ≡ Some line
-    → HasSamples (column map k) fold.steps fold.every (get_or fold.samples.items line [])
+    → get_or (marks_in fold) (cell_of fold.spans.items (bases_of fold.spans.items) k) None ≡ Some line
+    → HasSamples (column map k) fold.steps fold.every (get_or (lines_in fold) line [])
 line-held fold map k line p w q = λ j b h.
-    let own = fold.marked.own (cell_of fold.spans.items fold.bases.items k) line q in
-    let at = get_or fold.probes.items line 0 in
-    let same = one-place fold.spans.items fold.bases.items at k fold.rising fold.laid_out (fold.probed line own.0) w own.1 in
+    let own = fold.marked.own (cell_of fold.spans.items (bases_of fold.spans.items) k) line q in
+    let at = get_or (probes_of fold) line 0 in
+    let same = one-place fold.spans.items (bases_of fold.spans.items) at k fold.rising (laid-out fold.spans.items fold.rising) (fold.probed line own.0) w own.1 in
     let m : j * fold.every % fold.every ≡ 0 = mul-mod_left j fold.every in
     let some : 1 ≤ fold.every = fold.sampled in
     let d : j * fold.every / fold.every ≡ j = mul-div_cancel j (omega arith) in
-    ap (λ i. told (get_or (get_or fold.samples.items line []) i None)) (sym d)
-    ∙ kept-line fold line (j * fold.every) line m h (ap (λ c. get_or fold.marks.items c None) own.1 ∙ q)
+    ap (λ i. told (get_or (get_or (lines_in fold) line []) i None)) (sym d)
+    ∙ kept-line fold line (j * fold.every) line m h (ap (λ c. get_or (marks_in fold) c None) own.1 ∙ q)
     ∙ p.samples line (j * fold.every) own.0
     ∙ sampled-then map fold.every fold.steps at (j * fold.every) m h
     ∙ ap (λ i. column map i (j * fold.every)) same
@@ -38,14 +38,14 @@ held {fold} {map} p = record {
 }
 
 -- the sample of a probe is what is taken of its place, at the steps that are sampled
-sample-told : (fold : Fold) (map : Noted) (probe step : ℕ) → IsHeld fold map → probe < length fold.probes.items
-    → sample_kept fold probe step ≡ sample_over map fold.every fold.steps (get_or fold.probes.items probe 0) step
+sample-told : (fold : Fold) (map : Noted) (probe step : ℕ) → IsHeld fold map → probe < length (probes_of fold)
+    → sample_kept fold probe step ≡ sample_over map fold.every fold.steps (get_or (probes_of fold) probe 0) step
 sample-told fold map probe step h l =
-    let at = get_or fold.probes.items probe 0 in
+    let at = get_or (probes_of fold) probe 0 in
     elim (or-over step fold.steps) [
       | inl le ↦ elim (decided (step % fold.every) 0) [
         | inl m ↦
-            let a = line-by (get_or fold.marks.items (cell_of fold.spans.items fold.bases.items at) None) (fold.marked.each probe l) in
+            let a = line-by (get_or (marks_in fold) (cell_of fold.spans.items (bases_of fold.spans.items) at) None) (fold.marked.each probe l) in
             sym (kept-line fold probe step a.0 m le a.1) ∙ sampled fold map probe step a.0 h l le m a.1
         | inr m ↦ sym (kept-between fold probe step m) ∙ between-sampled map fold.every fold.steps at step m
       ]

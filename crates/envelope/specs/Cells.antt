@@ -1,6 +1,6 @@
 -- The places of some spans, and the cell of each in a fold.
-use Rattle.std.specs.Prelude.{◌≡◌, ℕ, ◌+◌, ◌-◌, ◌<◌, ◌≤◌, ◌&&◌, nat_le, nat_lt, Bool, List, length}
-use Rattle.std.specs.Prelude.{slice_index_or, slice_index}
+use Rattle.std.specs.Prelude.{◌≡◌, ℕ, ◌+◌, ◌-◌, ◌<◌, ◌≤◌, ◌&&◌, nat_le, nat_lt, Bool, List, [], ◌∷◌}
+use Rattle.std.specs.Prelude.{length, slice_index_or, slice_index}
 use Rattle.std.specs.List.{list_any, position_or_len}
 
 -- what stands for a span that isn't there
@@ -26,6 +26,15 @@ end_of_span spans i = (slice_index_or spans i no_span).0 + (slice_index_or spans
 pub record IsRising (spans : List (ℕ × ℕ)) : Type 0 where
   pub apart : (i j : ℕ) → i < j → j < length spans → end_of_span spans i ≤ first_of_span spans j
   pub low : (i : ℕ) → i < length spans → end_of_span spans i ≤ 400_000
+
+-- the cell of each span's first place, and behind them the count of all cells, where so many cells
+-- lie before
+abbrev pub bases_after : ℕ → List (ℕ × ℕ) → List ℕ
+bases_after before [] = before ∷ []
+bases_after before (span ∷ spans) = before ∷ bases_after (before + span.1) spans
+
+abbrev pub bases_of : List (ℕ × ℕ) → List ℕ
+bases_of spans = bases_after 0 spans
 
 -- the cell of each span's first place, and the count of all cells: no two spans share a cell
 pub record IsLaidOut (spans : List (ℕ × ℕ)) (bases : List ℕ) : Type 0 where

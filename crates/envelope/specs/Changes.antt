@@ -4,19 +4,13 @@ use Rattle.case_model.specs.Samples.{Sample}
 use Rattle.envelope.specs.Cells.{is_within}
 use Rattle.envelope.specs.Extremes.{AgreeAlong, either}
 use Rattle.envelope.specs.Folds.{IsSameFold, spans_of, steps_of, every_of}
-use Rattle.envelope.specs.Layout.{StandsAt, line_in}
+use Rattle.envelope.specs.Layout.{StandsAt, line_in, marks_in}
 use Rattle.envelope.specs.declared.folds.Fold.{Fold}
 
--- two folds are of the same shape, and the cell of each place is the same
-pub record AreSameCells (old new : Fold) : Type 0 where
-  pub same : IsSameFold old new
-  pub bases_are : new.bases.items ≡ old.bases.items
-
--- and so is where each place has its numbers
+-- two folds are of the same shape, and each place has its numbers in the same cell and line
 pub record IsSameLayout (old new : Fold) : Type 0 where
   pub same : IsSameFold old new
-  pub bases_are : new.bases.items ≡ old.bases.items
-  pub marks_are : new.marks.items ≡ old.marks.items
+  pub marks_are : marks_in new ≡ marks_in old
   pub fault_is : new.fault ≡ old.fault
 
 -- one sample more at a step of a place, and nothing else

@@ -5,6 +5,7 @@ use Rattle.envelope.specs.Extremes.{HasExtreme}
 use Rattle.envelope.specs.Faults.{HasFault}
 use Rattle.envelope.specs.Kept.{extreme_kept, sample_kept, fault_kept}
 use Rattle.envelope.specs.Notings.{Noted, column, sample_over}
+use Rattle.envelope.specs.Probes.{places_of}
 use Rattle.envelope.specs.declared.folds.Fold.{Fold}
 
 -- what was given to `make`
@@ -12,7 +13,7 @@ abbrev pub spans_of : Fold → List (ℕ × ℕ)
 spans_of fold = fold.spans.items
 
 abbrev pub probes_of : Fold → List ℕ
-probes_of fold = fold.probes.items
+probes_of fold = places_of fold.probes
 
 abbrev pub steps_of : Fold → ℕ
 steps_of fold = fold.steps

@@ -7,5 +7,6 @@ pub mod Kept
 pub mod Layout
 pub mod Lines
 pub mod Notings
+pub mod Probes
 pub mod RowFolds
 pub mod Rows

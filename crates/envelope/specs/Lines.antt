@@ -30,6 +30,22 @@ pub record IsMarked (spans : List (ℕ × ℕ)) (bases : List ℕ) (probes : Lis
 abbrev pub AreWithin : List (ℕ × ℕ) → List ℕ → Type 0
 AreWithin spans probes = (p : ℕ) → p < length probes → is_within spans (slice_index probes p) ≡ true
 
+-- entry j of a line of samples, where there is a line
+abbrev pub entry_of : List (List (Option Kept)) → Option ℕ → ℕ → Option Kept
+entry_of samples (Some line) j = slice_index_or (slice_index_or samples line []) j None
+entry_of samples None j = None
+
+-- the line of a cell, where it has one, is there and has entry j
+abbrev pub HasRoom : List (Option ℕ) → List (List (Option Kept)) → ℕ → ℕ → Type 0
+HasRoom marks samples cell j =
+    (line : ℕ) → slice_index_or marks cell None ≡ Some line
+    → (line < length samples) × (j < length (slice_index_or samples line []))
+
+-- as many lines, each with as many samples
+pub record AreSameWidths (old new : List (List (Option Kept))) : Type 0 where
+  pub lines : length new ≡ length old
+  pub widths : (l : ℕ) → length (slice_index_or new l []) ≡ length (slice_index_or old l [])
+
 -- a line for each probe, each with a sample for each of these many steps
 pub record AreLines (count width : ℕ) (samples : List (List (Option Kept))) : Type 0 where
   pub lines : length samples ≡ count

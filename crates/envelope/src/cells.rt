@@ -1,55 +1,34 @@
 //! The cell of each place that lies in the spans of a fold.
-ghost use Rattle.std.specs.Prelude.{◌≡◌, ℕ, ◌+◌, ◌<◌, ◌≤◌, true, length, slice_index, IfOk};
-ghost use Rattle.envelope.specs.Cells.{IsRising, IsLaidOut, is_within, span_of, IsPlaced};
+ghost use Rattle.std.specs.Prelude.{◌≡◌, ◌<◌, ◌≤◌, true, length, slice_index};
+ghost use Rattle.envelope.specs.Cells.{IsRising, bases_of, is_within};
 ghost use Rattle.envelope.specs.Cells.{cell_of as cell_is};
 
-use std::alloc::{AllocError, Global};
-
-/// The cell of each span's first place, and behind them the count of all cells.
-pub(crate) fn lay_out(alloc: Global, spans: &[(u64, u64)]) -> Result<Vec<usize>, AllocError>
+/// How many cells the places of the spans have.
+pub(crate) fn count_cells(spans: &[(u64, u64)]) -> usize
     requires { IsRising spans.now }
-    ensures { IfOk result (λ bases. IsLaidOut spans.now bases.items) }
+    ensures count { result ≡ slice_index (bases_of spans.now) (length spans.now) }
+    ensures few { result ≤ 400_000 }
 {
-    let mut bases = Vec::new(alloc);
-    let mut next = 0;
-    bases.push(next)?;
+    let mut count = 0;
     for span in spans {
-        next += span.1 as usize;
-        bases.push(next)?;
+        count += span.1 as usize;
     }
-    Ok(bases)
+    count
 }
 
-/// The cell of a place that lies in the spans.
+/// The cell of a place that lies in the spans. Most folds have one span.
 #[tactic(auto, unfolding(crate::specs::Cells::cell_of))]
-pub(crate) fn find_cell(spans: &[(u64, u64)], bases: &[usize], place: u64) -> usize
-    requires rising { IsRising spans.now }
-    requires laid_out { IsLaidOut spans.now bases.now }
-    requires within { is_within spans.now place ≡ true }
-    ensures cell { result ≡ cell_is spans.now bases.now place }
-    ensures inside { result < slice_index bases.now (length spans.now) }
-{
-    let index = find_span(spans, place);
-    bases[index] + (place - spans[index].0) as usize
-}
-
-/// The span of a place that lies in one.
-fn find_span(spans: &[(u64, u64)], place: u64) -> usize
+pub(crate) fn find_cell(spans: &[(u64, u64)], place: u64) -> usize
     requires rising { IsRising spans.now }
     requires within { is_within spans.now place ≡ true }
-    ensures span { result ≡ span_of spans.now place }
-    ensures placed { IsPlaced spans.now place result }
+    ensures cell { result ≡ cell_is spans.now (bases_of spans.now) place }
+    ensures inside { result < slice_index (bases_of spans.now) (length spans.now) }
 {
-    let mut low = 0;
-    let mut high = spans.len();
-    while low < high {
-        let middle = low + (high - low) / 2;
-        let span = spans[middle];
-        if place < span.0 + span.1 {
-            high = middle;
-        } else {
-            low = middle + 1;
-        }
+    let mut index = 0;
+    let mut before = 0;
+    while spans[index].0 + spans[index].1 <= place {
+        before += spans[index].1 as usize;
+        index += 1;
     }
-    low
+    before + (place - spans[index].0) as usize
 }

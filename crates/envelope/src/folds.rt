@@ -1,14 +1,15 @@
 //! A fold: what is kept of the places of some spans.
 ghost use Rattle.std.specs.Prelude.{◌≡◌, ℕ, ◌+◌, ◌/◌, ◌≤◌, length, slice_index};
-ghost use Rattle.envelope.specs.Cells.{IsRising, IsLaidOut};
+ghost use Rattle.envelope.specs.Cells.{IsRising, bases_of};
 ghost use Rattle.envelope.specs.Lines.{AreWithin, IsMarked, AreLines};
+ghost use Rattle.envelope.specs.Probes.{lines_of, marks_of, places_of};
 
-use crate::cells::{find_cell, lay_out};
+use crate::cells::{count_cells, find_cell};
 use crate::extremes::{blank_cells, join_cell};
 use crate::faults::earlier;
-use crate::lines::{blank_lines, join_line, keep_sample, mark, sample_in};
+use crate::probes::{Probes, join_probed, keep_probed, make_probes, probed_sample};
 use crate::{Extreme, Sample};
-use case_model::{List, NodeState, Point};
+use case_model::{NodeState, Point};
 use std::alloc::{AllocError, Global};
 
 /// Of the places of some spans, over what was noted of them: the envelope of each, the samples of
@@ -16,23 +17,18 @@ use std::alloc::{AllocError, Global};
 #[derive(Drop, Debug)]
 pub struct Fold {
     spans: Vec<(u64, u64)>,
-    bases: Vec<usize>,
-    probes: Vec<u64>,
+    probes: Option<Box<Probes>>,
     steps: u64,
     every: u64,
     cells: Vec<Extreme>,
-    marks: Vec<Option<u32>>,
-    samples: Vec<List<Option<Sample>>>,
     fault: Option<(u64, u64)>,
     ghost rising: { IsRising spans.items },
-    ghost laid_out: { IsLaidOut spans.items bases.items },
-    ghost probed: { AreWithin spans.items probes.items },
+    ghost probed: { AreWithin spans.items (places_of probes) },
     ghost sampled: { 1 ≤ every },
-    ghost filled: { length cells.items ≡ slice_index bases.items (length spans.items) },
-    ghost marks_fit: { length marks.items ≡ slice_index bases.items (length spans.items) },
-    ghost marked: { IsMarked spans.items bases.items probes.items (length probes.items)
-        marks.items },
-    ghost lined: { AreLines (length probes.items) (steps / every + 1) samples.items },
+    ghost filled: { length cells.items ≡ slice_index (bases_of spans.items) (length spans.items) },
+    ghost marked: { IsMarked spans.items (bases_of spans.items) (places_of probes)
+        (length (places_of probes)) (marks_of probes) },
+    ghost lined: { AreLines (length (places_of probes)) (steps / every + 1) (lines_of probes) },
 }
 
 impl Fold {
@@ -42,7 +38,7 @@ impl Fold {
     ghost use Rattle.envelope.specs.Cells.{is_within, first_of_span, end_of_span, AreInOneSpan};
     ghost use Rattle.envelope.specs.Extremes.{IsEnvelopeOf};
     ghost use Rattle.envelope.specs.Faults.{HasFault};
-    ghost use Rattle.envelope.specs.Changes.{IsKeptAt, IsSameLayout, AreSameCells, AreJoined};
+    ghost use Rattle.envelope.specs.Changes.{IsKeptAt, IsSameLayout, AreJoined};
     ghost use Rattle.envelope.specs.Changes.{IsMergeable};
     ghost use Rattle.envelope.specs.Folds.{spans_of, probes_of, steps_of, every_of, Stands};
     ghost use Rattle.envelope.specs.Folds.{IsFoldOf, IsSameFold};
@@ -70,19 +66,13 @@ impl Fold {
         ensures given { IfOk result (λ fold. IsFoldOf spans.now probes.now steps every fold) }
         ensures stands { IfOk result (λ fold. Stands fold nothing) }
     {
-        let bases = lay_out(alloc, spans)?;
-        let cells = blank_cells(alloc, bases[spans.len()])?;
-        let marks = mark(alloc, spans, &bases, probes)?;
-        let samples = blank_lines(alloc, probes.len(), steps, every)?;
+        let count = count_cells(spans);
         Ok(Fold {
             spans: Vec::from_slice(alloc, spans)?,
-            bases,
-            probes: Vec::from_slice(alloc, probes)?,
+            probes: make_probes(alloc, spans, count, probes, steps, every)?,
             steps,
             every,
-            cells,
-            marks,
-            samples,
+            cells: blank_cells(alloc, count)?,
             fault: None,
         })
     }
@@ -192,7 +182,7 @@ impl Fold {
             step ≤ steps_of self.now → taken (map step place) ≢ None →
             IsEnvelopeOf (column map place) (steps_of self.now) result }
     {
-        let cell = find_cell(&self.spans, &self.bases, place);
+        let cell = find_cell(&self.spans, place);
         self.cells[cell]
     }
 
@@ -210,14 +200,12 @@ impl Fold {
         if step > self.steps || step % self.every != 0 {
             return None;
         }
-        let cell = find_cell(&self.spans, &self.bases, self.probes[probe as usize]);
-        match self.marks[cell] {
-            Some(line) => {
-                let line = self.samples[line as usize].as_slice();
-                sample_in(line, (step / self.every) as usize)
-            }
-            None => None,
-        }
+        probed_sample(
+            &self.probes,
+            &self.spans,
+            probe,
+            (step / self.every) as usize,
+        )
     }
 
     /// Takes in a line that has a point, at a step up to the last. The cells of a line follow one
@@ -246,7 +234,7 @@ impl Fold {
         ensures stands { (map : Noted) → IsHeld self.old map →
             Agree map (only step place (OfPoint point.now)) →
             IsHeld self.new (noted map step place (OfPoint point.now)) }
-        ensures cells { AreSameCells self.old self.new }
+        ensures cells { IsSameFold self.old self.new }
     {
         match point {
             Point::Good { h, qu, qd, v } => {
@@ -282,7 +270,7 @@ impl Fold {
         ensures cell { result ≡ cell_in self.now place }
         ensures inside { result < count_of_cells self.now }
     {
-        find_cell(&self.spans, &self.bases, place)
+        find_cell(&self.spans, place)
     }
 
     /// Keeps a sample in a cell, and in the line of samples where the cell has one.
@@ -295,9 +283,7 @@ impl Fold {
         ensures layout { IsSameLayout self.old self.new }
     {
         join_cell(&mut self.cells, cell, &Extreme::of_one(step, sample));
-        if let Some(line) = self.marks[cell] {
-            keep_sample(&mut self.samples, line, step, self.every, sample);
-        }
+        keep_probed(&mut self.probes, cell, step, self.every, sample);
     }
 
     fn fail(&mut self, step: u64, place: u64)
@@ -306,7 +292,7 @@ impl Fold {
             is_bad_noting (Some noting) ≡ true → IsHeld self.old map →
             Agree map (only step place noting) → IsHeld self.new (noted map step place noting) }
         ensures past { steps_of self.old < step → self.new ≡ self.old }
-        ensures cells { AreSameCells self.old self.new }
+        ensures cells { IsSameFold self.old self.new }
     {
         let last = self.steps;
         if step <= last {
@@ -332,14 +318,9 @@ impl Fold {
         requires within { is_within (spans_of other.now) place ≡ true }
         ensures { AreJoined self.old other.now self.new place (place + 1) }
     {
-        let cell = find_cell(&self.spans, &self.bases, place);
-        let from = find_cell(&other.spans, &other.bases, place);
+        let cell = find_cell(&self.spans, place);
+        let from = find_cell(&other.spans, place);
         join_cell(&mut self.cells, cell, &other.cells[from]);
-        if let Some(line) = self.marks[cell] {
-            if let Some(more) = other.marks[from] {
-                let more = other.samples[more as usize].as_slice();
-                join_line(&mut self.samples, line, more);
-            }
-        }
+        join_probed(&mut self.probes, cell, &other.probes, from);
     }
 }

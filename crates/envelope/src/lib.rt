@@ -8,6 +8,7 @@ mod faults;
 mod folds;
 mod lines;
 mod peaks;
+mod probes;
 mod rows;
 mod samples;
 

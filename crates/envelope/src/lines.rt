@@ -3,7 +3,7 @@ ghost use Rattle.std.specs.Prelude.{◌≡◌, ◌≢◌, ℕ, ◌+◌, ◌*◌,
 ghost use Rattle.std.specs.Prelude.{length, replicate, slice_index, slice_index_or, slice_set};
 ghost use Rattle.std.specs.Prelude.{Option, Some, None, IfOk};
 ghost use Rattle.case_model.specs.Samples.{Sample as Taken};
-ghost use Rattle.envelope.specs.Cells.{IsRising, IsLaidOut};
+ghost use Rattle.envelope.specs.Cells.{IsRising, bases_of};
 ghost use Rattle.envelope.specs.Extremes.{AgreeAlong, either, first_of};
 ghost use Rattle.envelope.specs.Lines.{told, HasSamples, IsMarked, AreWithin, AreLines, AreBlank};
 
@@ -12,25 +12,23 @@ use crate::cells::find_cell;
 use case_model::List;
 use std::alloc::{AllocError, Global};
 
-/// For each cell which line of samples belongs to it: that of a probe at its place.
+/// For each of `count` cells which line of samples belongs to it: that of a probe at its place.
 pub(crate) fn mark(
     alloc: Global,
     spans: &[(u64, u64)],
-    bases: &[usize],
+    count: usize,
     probes: &[u64],
 ) -> Result<Vec<Option<u32>>, AllocError>
     requires rising { IsRising spans.now }
-    requires laid_out { IsLaidOut spans.now bases.now }
+    requires count { count ≡ slice_index (bases_of spans.now) (length spans.now) }
     requires within { AreWithin spans.now probes.now }
     requires few { length probes.now ≤ 4_000_000 }
-    ensures own { IfOk result
-        (λ marks. IsMarked spans.now bases.now probes.now (length probes.now) marks.items) }
-    ensures each { IfOk result (λ marks. length marks.items
-        ≡ slice_index bases.now (length spans.now)) }
+    ensures { IfOk result (λ marks.
+        IsMarked spans.now (bases_of spans.now) probes.now (length probes.now) marks.items) }
 {
-    let mut marks = vec![in alloc; None; bases[spans.len()]]?;
+    let mut marks = vec![in alloc; None; count]?;
     for (probe, place) in probes.iter().enumerate() {
-        let cell = find_cell(spans, bases, *place);
+        let cell = find_cell(spans, *place);
         marks[cell] = Some(probe as u32);
     }
     Ok(marks)

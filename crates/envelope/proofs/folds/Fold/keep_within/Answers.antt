@@ -1,49 +1,35 @@
-use Rattle.std.proofs.Common.{◌≡◌, ◌∙◌, length, get_or, refl, sym, ap, subst, [], Some}
+use Rattle.std.proofs.Common.{length, refl, sym, subst}
+use Rattle.envelope.specs.Cells.{bases_of}
 use Rattle.envelope.specs.Extremes.{either}
-use Rattle.envelope.specs.Lines.{HasSamples}
-use Rattle.envelope.proofs.Standing.{standing-here, standing-elsewhere, line-there, cell-counted, mark-is, in-line}
+use Rattle.envelope.specs.Folds.{probes_of}
+use Rattle.envelope.specs.Layout.{IsStanding, lines_in, marks_in}
+use Rattle.envelope.specs.Probes.{lines_of}
+use Rattle.envelope.proofs.Placed.{laid-out}
+use Rattle.envelope.proofs.Standing.{in-line, line-there, standing-here, standing-elsewhere}
 use Rattle.envelope.proofs.folds.Fold.keep_within.Goals as goal
 
-pub keep_sample-requires-clause-line : goal.keep_sample-requires-clause-line
-keep_sample-requires-clause-line c =
+pub keep_probed-requires-clause-room : goal.keep_probed-requires-clause-room
+keep_probed-requires-clause-room c = λ line h.
     let o = c.args.self.now in
-    line-there o c.args.cell c.in-Some.line (mark-is o c.args.cell c.index.result.now (cell-counted o c.args.cell c.requires.cell) c.index.ensures ∙ c.in-Some.is)
+    (line-there o c.args.cell line h, in-line o c.args.cell line c.args.step h c.requires.step)
 
-pub keep_sample-requires-clause-inside : goal.keep_sample-requires-clause-inside
-keep_sample-requires-clause-inside c =
+pub returns-clause-kept : goal.returns-clause-kept
+returns-clause-kept c = λ place within e.
     let o = c.args.self.now in
-    in-line o c.args.cell c.in-Some.line c.args.step (mark-is o c.args.cell c.index.result.now (cell-counted o c.args.cell c.requires.cell) c.index.ensures ∙ c.in-Some.is) c.requires.step
-
-pub returns-in-Some-clause-kept : goal.returns-in-Some-clause-kept
-returns-in-Some-clause-kept c = λ place within e.
-    let o = c.args.self.now in
-    let cell = c.args.cell in
-    let m = mark-is o cell c.index.result.now (cell-counted o cell c.requires.cell) c.index.ensures ∙ c.in-Some.is in
+    let bases = bases_of o.spans.items in
+    let cells = c.join_cell.new.cells.items in
+    let lines = lines_of c.keep_probed.new.probes in
+    let k = c.keep_probed.ensures in
     record {
-      layout = record { same = record { spans_are = refl; probes_are = refl; steps_are = refl; every_is = refl }; bases_are = refl; marks_are = refl; fault_is = refl };
-      here = λ f g a gs gn p. standing-here o.spans.items o.bases.items o.steps o.every o.marks.items o.cells.items c.join_cell.new.cells.items o.samples.items c.keep_sample.new.samples.items place cell f g e
+      layout = record { same = record { spans_are = refl; probes_are = k.places; steps_are = refl; every_is = refl }; marks_are = k.marks; fault_is = refl };
+      here = λ f g a gs gn p.
+          subst (λ m. IsStanding o.spans.items bases o.steps o.every m cells lines place (either f g)) (sym k.marks)
+          (standing-here o.spans.items bases o.steps o.every (marks_in o) o.cells.items cells (lines_in o) lines place c.args.cell f g e
           (λ h. c.join_cell.ensures.here f g o.steps a h (c.of_one.ensures g o.steps c.requires.step gs gn))
-          (λ line q h.
-          let k : line ≡ c.in-Some.line = let r = sym q ∙ m in cc in
-          subst (λ n. HasSamples (either f g) o.steps o.every (get_or c.keep_sample.new.samples.items n [])) (sym k)
-          (c.keep_sample.ensures.here f g o.steps a gs gn (subst (λ n. HasSamples f o.steps o.every (get_or o.samples.items n [])) k h)))
-          p;
-      others = λ k w n f p. standing-elsewhere o.spans.items o.bases.items o.probes.items o.steps o.every o.marks.items o.cells.items c.join_cell.new.cells.items o.samples.items c.keep_sample.new.samples.items place cell k (length o.probes.items) f
-          o.rising o.laid_out o.marked within w n e c.join_cell.ensures.others
-          (λ line h. c.keep_sample.ensures.others line (λ q. h (m ∙ ap (λ n. Some n) (sym q)))) p;
-    }
-
-pub returns-in_default-clause-kept : goal.returns-in_default-clause-kept
-returns-in_default-clause-kept c = λ place within e.
-    let o = c.args.self.now in
-    let cell = c.args.cell in
-    let m = mark-is o cell c.index.result.now (cell-counted o cell c.requires.cell) c.index.ensures in
-    record {
-      layout = record { same = record { spans_are = refl; probes_are = refl; steps_are = refl; every_is = refl }; bases_are = refl; marks_are = refl; fault_is = refl };
-      here = λ f g a gs gn p. standing-here o.spans.items o.bases.items o.steps o.every o.marks.items o.cells.items c.join_cell.new.cells.items o.samples.items o.samples.items place cell f g e
-          (λ h. c.join_cell.ensures.here f g o.steps a h (c.of_one.ensures g o.steps c.requires.step gs gn))
-          (λ line q h. absurd (c.in_default.not-Some line (sym m ∙ q)))
-          p;
-      others = λ k w n f p. standing-elsewhere o.spans.items o.bases.items o.probes.items o.steps o.every o.marks.items o.cells.items c.join_cell.new.cells.items o.samples.items o.samples.items place cell k (length o.probes.items) f
-          o.rising o.laid_out o.marked within w n e c.join_cell.ensures.others (λ line h. refl) p;
+          (λ line q h. k.here line o.steps f g a q gs gn h)
+          p);
+      others = λ p w n f s.
+          subst (λ m. IsStanding o.spans.items bases o.steps o.every m cells lines p f) (sym k.marks)
+          (standing-elsewhere o.spans.items bases (probes_of o) o.steps o.every (marks_in o) o.cells.items cells (lines_in o) lines place c.args.cell p (length (probes_of o)) f
+          o.rising (laid-out o.spans.items o.rising) o.marked within w n e c.join_cell.ensures.others k.others s);
     }

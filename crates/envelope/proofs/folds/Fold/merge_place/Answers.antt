@@ -1,80 +1,47 @@
-use Rattle.std.proofs.Common.{◌≡◌, ◌∙◌, length, get_or, refl, sym, ap, subst, [], Some, arith}
+use Rattle.std.proofs.Common.{refl, sym, subst}
+use Rattle.envelope.specs.Cells.{bases_of}
 use Rattle.envelope.specs.Extremes.{either}
-use Rattle.envelope.specs.Lines.{HasSamples}
-use Rattle.envelope.proofs.Merged.{place-joined, place-kept, same-width}
-use Rattle.envelope.proofs.Standing.{line-there, cell-fits, cell-same, mark-is, line-read}
+use Rattle.envelope.specs.Layout.{IsStanding}
+use Rattle.envelope.specs.Probes.{lines_of}
+use Rattle.envelope.proofs.Merged.{cell-filled, cell-found, more-there, place-joined, place-kept, same-width}
+use Rattle.envelope.proofs.Standing.{line-there}
 use Rattle.envelope.proofs.folds.Fold.merge_place.Goals as goal
 
-pub index-requires-in-Some-index : goal.index-requires-in-Some-index
-index-requires-in-Some-index c =
-    let r = c.args.other.now in
-    let from = c.find_cell-from.result in
-    let l2 = cell-fits r _ _ from c.deref-3.ensures.value c.deref-4.ensures.value c.find_cell-from.ensures.inside in
-    let h = line-there r from c.in-Some-index.more (mark-is r from c.index-in-Some.result.now l2 c.index-in-Some.ensures ∙ c.in-Some-index.is) in
-    omega arith
+pub join_probed-requires-clause-there : goal.join_probed-requires-clause-there
+join_probed-requires-clause-there c = λ line h. line-there c.args.self.now c.find_cell-cell.result line h
 
-pub join_line-requires-clause-line : goal.join_line-requires-clause-line
-join_line-requires-clause-line c =
-    let o = c.args.self.now in
-    let cell = c.find_cell-cell.result in
-    let l = cell-fits o _ _ cell c.deref.ensures.value c.deref-2.ensures.value c.find_cell-cell.ensures.inside in
-    line-there o cell c.in-Some.line (mark-is o cell c.index-2.result.now l c.index-2.ensures ∙ c.in-Some.is)
-
-pub join_line-requires-clause-same : goal.join_line-requires-clause-same
-join_line-requires-clause-same c =
+pub join_probed-requires-clause-wide : goal.join_probed-requires-clause-wide
+join_probed-requires-clause-wide c = λ line more q h.
     let o = c.args.self.now in
     let r = c.args.other.now in
-    let cell = c.find_cell-cell.result in
     let from = c.find_cell-from.result in
-    let l = cell-fits o _ _ cell c.deref.ensures.value c.deref-2.ensures.value c.find_cell-cell.ensures.inside in
-    let l2 = cell-fits r _ _ from c.deref-3.ensures.value c.deref-4.ensures.value c.find_cell-from.ensures.inside in
-    let m = mark-is o cell c.index-2.result.now l c.index-2.ensures ∙ c.in-Some.is in
-    let m2 = mark-is r from c.index-in-Some.result.now l2 c.index-in-Some.ensures ∙ c.in-Some-index.is in
-    ap length (c.as_slice-more.ensures ∙ line-read r from c.in-Some-index.more _ m2 c.index-in-Some-index.ensures) ∙ same-width o r cell from c.in-Some.line c.in-Some-index.more c.requires.mergeable m m2
+    (line-there r from more h, same-width o r c.find_cell-cell.result from line more c.requires.mergeable q h)
 
-pub returns-in-Some-index : goal.returns-in-Some-index
-returns-in-Some-index c =
+pub returns : goal.returns
+returns c =
     let o = c.args.self.now in
     let r = c.args.other.now in
+    let place = c.args.place in
     let cell = c.find_cell-cell.result in
     let from = c.find_cell-from.result in
-    let e = cell-same o _ _ cell c.args.place c.deref.ensures.value c.deref-2.ensures.value c.find_cell-cell.ensures.cell in
-    let e2 = cell-same r _ _ from c.args.place c.deref-3.ensures.value c.deref-4.ensures.value c.find_cell-from.ensures.cell in
-    let l = cell-fits o _ _ cell c.deref.ensures.value c.deref-2.ensures.value c.find_cell-cell.ensures.inside in
-    let l2 = cell-fits r _ _ from c.deref-3.ensures.value c.deref-4.ensures.value c.find_cell-from.ensures.inside in
-    let m = mark-is o cell c.index-2.result.now l c.index-2.ensures ∙ c.in-Some.is in
-    let m2 = mark-is r from c.index-in-Some.result.now l2 c.index-in-Some.ensures ∙ c.in-Some-index.is in
-    let slice = c.as_slice-more.ensures ∙ line-read r from c.in-Some-index.more _ m2 c.index-in-Some-index.ensures in
+    let m = c.requires.mergeable in
+    let e = cell-found o _ place cell c.deref.ensures.value c.find_cell-cell.ensures.cell in
+    let e2 = cell-found r _ place from c.deref-2.ensures.value c.find_cell-from.ensures.cell in
+    let l = cell-filled r _ from c.deref-2.ensures.value c.find_cell-from.ensures.inside in
+    let cells = c.join_cell.new.cells.items in
+    let lines = lines_of c.join_probed.new.probes in
+    let j = c.join_probed.ensures in
     record {
-      layout = record { same = record { spans_are = refl; probes_are = refl; steps_are = refl; every_is = refl }; bases_are = refl; marks_are = refl; fault_is = refl };
-      joined = λ k w lo hi f g a s t. place-joined o r c.join_cell.new.cells.items c.join_line.new.samples.items c.args.place cell from k c.index.result.now f g c.requires.mergeable e e2 l2 c.index.ensures
+      layout = record { same = record { spans_are = refl; probes_are = j.places; steps_are = refl; every_is = refl }; marks_are = j.marks; fault_is = refl };
+      joined = λ k w lo hi f g a s t.
+          subst (λ n. IsStanding o.spans.items (bases_of o.spans.items) o.steps o.every n cells lines k (either f g)) (sym j.marks)
+          (place-joined o r cells lines place cell from k c.index.result.now f g m e e2 l c.index.ensures
           (λ p q. c.join_cell.ensures.here f g o.steps a p q)
           (λ line q h more.
-          let n : line ≡ c.in-Some.line = let i = sym q ∙ m in cc in
-          subst (λ x. HasSamples (either f g) o.steps o.every (get_or c.join_line.new.samples.items x [])) (sym n)
-          (c.join_line.ensures.here f g o.steps o.every (subst (λ x. HasSamples f o.steps o.every (get_or o.samples.items x [])) n h)
-          (subst (λ xs. HasSamples g o.steps o.every xs) (sym slice) (more c.in-Some-index.more m2))))
-          lo hi s t;
-      kept = λ k w d f s. place-kept o r c.join_cell.new.cells.items c.join_line.new.samples.items c.args.place cell k f c.requires.mergeable c.requires.within e c.join_cell.ensures.others
-          (λ line h. c.join_line.ensures.others line (λ q. h (m ∙ ap (λ x. Some x) (sym q)))) w d s;
-    }
-
-pub returns-in_default : goal.returns-in_default
-returns-in_default c =
-    let o = c.args.self.now in
-    let r = c.args.other.now in
-    let cell = c.find_cell-cell.result in
-    let from = c.find_cell-from.result in
-    let e = cell-same o _ _ cell c.args.place c.deref.ensures.value c.deref-2.ensures.value c.find_cell-cell.ensures.cell in
-    let e2 = cell-same r _ _ from c.args.place c.deref-3.ensures.value c.deref-4.ensures.value c.find_cell-from.ensures.cell in
-    let l = cell-fits o _ _ cell c.deref.ensures.value c.deref-2.ensures.value c.find_cell-cell.ensures.inside in
-    let l2 = cell-fits r _ _ from c.deref-3.ensures.value c.deref-4.ensures.value c.find_cell-from.ensures.inside in
-    let m = mark-is o cell c.index-2.result.now l c.index-2.ensures in
-    record {
-      layout = record { same = record { spans_are = refl; probes_are = refl; steps_are = refl; every_is = refl }; bases_are = refl; marks_are = refl; fault_is = refl };
-      joined = λ k w lo hi f g a s t. place-joined o r c.join_cell.new.cells.items o.samples.items c.args.place cell from k c.index.result.now f g c.requires.mergeable e e2 l2 c.index.ensures
-          (λ p q. c.join_cell.ensures.here f g o.steps a p q)
-          (λ line q h more. absurd (c.in_default.not-Some line (sym m ∙ q)))
-          lo hi s t;
-      kept = λ k w d f s. place-kept o r c.join_cell.new.cells.items o.samples.items c.args.place cell k f c.requires.mergeable c.requires.within e c.join_cell.ensures.others (λ line h. refl) w d s;
+          let n = more-there o r place cell from line m c.requires.within e e2 q in
+          j.here line n.0 o.steps o.every f g q n.1 h (more n.0 n.1))
+          lo hi s t);
+      kept = λ k w d f s.
+          subst (λ n. IsStanding o.spans.items (bases_of o.spans.items) o.steps o.every n cells lines k f) (sym j.marks)
+          (place-kept o r cells lines place cell k f m c.requires.within e c.join_cell.ensures.others j.others w d s);
     }

@@ -1,6 +1,6 @@
 use Rattle.std.proofs.Common.{length, arith}
 use Rattle.envelope.specs.Folds.{spans_of}
-use Rattle.envelope.proofs.Lined.{first-within, still-within, still-cell, still-inside, same-cells, line-agrees, held-on, held-whole}
+use Rattle.envelope.proofs.Lined.{first-within, still-within, still-cell, still-inside, same-then, line-agrees, held-on, held-whole}
 use Rattle.envelope.proofs.folds.Fold.note_within.Goals as goal
 
 pub cell-cell-requires : goal.cell-cell-requires
@@ -19,7 +19,7 @@ pub loop-i-preserved : goal.loop-i-preserved
 loop-i-preserved c =
     let l = c.loop-i in
     record {
-      cells = same-cells c.args.self.now l.self c.note_in.new.self l.invariant.cells c.note_in.ensures.cells;
+      cells = same-then c.args.self.now l.self c.note_in.new.self l.invariant.cells c.note_in.ensures.cells;
       stands = λ map p g.
           held-on c.note_in.new.self map c.args.step c.args.first l.i c.args.points.now _ c.loop-i-test.true
           (c.note_in.ensures.stands _ (l.invariant.stands map p g) (line-agrees map c.args.step c.args.first l.i c.args.points.now _ c.loop-i-test.true g));
