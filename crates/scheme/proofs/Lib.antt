@@ -1,3 +1,4 @@
+pub mod Calm
 pub mod Caused
 pub mod Divided
 pub mod EndPoints

@@ -7,5 +7,6 @@ pub mod Laws
 pub mod NodeCauses
 pub mod NodeLaws
 pub mod ReadProps
+pub mod Runs
 pub mod Starts
 pub mod Values

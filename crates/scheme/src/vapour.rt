@@ -1,9 +1,11 @@
 //! Vapour heads of places and of nodes.
-ghost use Rattle.std.specs.Prelude.{◌≡◌, ◌≤◌, ◌<◌, ◌+ℤ◌, pos, neg_ℤ, unsigned_abs, length};
+ghost use Rattle.std.specs.Prelude.{◌≡◌, ◌≤◌, ◌<◌, ℕ, ◌+ℤ◌, ◌≤ℤ◌, pos, neg_ℤ, unsigned_abs, length};
+ghost use Rattle.std.specs.Int.{int_max};
 ghost use Rattle.case_model.specs.Division.{vapour_head as place_vapour_head};
 ghost use Rattle.case_model.specs.Division.{node_vapour_head as head_of_node};
 ghost use Rattle.case_model.specs.Limits.{IsRead, IsWithin};
 ghost use Rattle.case_model.specs.Mesh.{reaches as reaches_of};
+ghost use Rattle.case_model.specs.Parts.{pipe_at, node_at};
 ghost use Rattle.scheme.specs.Computable.{IsComputable};
 
 use case_model::{Case, Mesh};
@@ -18,6 +20,29 @@ pub(crate) fn vapour_head(case: &Case, mesh: &Mesh, pipe: u32, place: u32) -> i6
     ensures size { unsigned_abs result ≤ 100_000_000_000 }
 {
     raised(elevation(case, mesh, pipe, place), case.vapour)
+}
+
+/// A head (1e-6 m) that the vapour head of no inner place of a pipe is over: that of its higher end.
+pub(crate) fn highest_vapour_head(case: &Case, mesh: &Mesh, pipe: u32) -> i64
+    requires fit { IsComputable case.now mesh.now }
+    requires on_mesh { pipe < length mesh.now.pipes }
+    ensures highest { (i : ℕ) → i < reaches_of mesh.now pipe →
+        place_vapour_head case.now mesh.now pipe i ≤ℤ result }
+    ensures size { unsigned_abs result ≤ 100_000_000_000 }
+{
+    raised(higher_end(case, mesh, pipe), case.vapour)
+}
+
+// The elevation of the higher end of a pipe.
+fn higher_end(case: &Case, mesh: &Mesh, pipe: u32) -> i64
+    requires fit { IsComputable case.now mesh.now }
+    requires on_mesh { pipe < length mesh.now.pipes }
+    ensures value { let line = pipe_at case.now pipe in result
+        ≡ int_max (node_at case.now line.first).elevation (node_at case.now line.last).elevation }
+    ensures size { unsigned_abs result ≤ 30_000_000_000 }
+{
+    let line = &case.pipes.as_slice()[pipe as usize];
+    node_elevation(case, line.first).max(node_elevation(case, line.last))
 }
 
 /// The vapour head (1e-6 m) of a node.

@@ -1,0 +1,190 @@
+-- Runs of places without a cavity: signs of flows, values of characteristics, and where they meet.
+use Rattle.std.proofs.Common.{ℕ, suc, ◌*◌, ◌<◌, ◌≤◌, ◌≡◌, ap, sym, subst, refl, ◌∙◌, arith, ℤ, pos, negsuc, neg_ℤ, ◌+ℤ◌, ◌-ℤ◌, ◌≤ℤ◌, ◌<ℤ◌, unsigned_abs, Option, Some, true, w64, of_z, to_z, FitsSigned}
+use Rattle.std.specs.Prelude.{int_le}
+use Rattle.std.proofs.lemmas.Int.{ints, fits_signed_from_abs, to_z-of_z}
+use Rattle.std.proofs.Math.IntN.{+ℤ_comm}
+use Rattle.fixed_num.specs.Rounding.{half_up, rnd}
+use Rattle.fixed_num.proofs.Between.{rnd_up, rnd_down}
+use Rattle.case_model.specs.declared.cases.Friction.TheVariants.{Explicit}
+use Rattle.case_model.specs.declared.points.Point.{Point}
+use Rattle.case_model.specs.declared.points.Point.TheVariants.{Good}
+use Rattle.case_model.specs.declared.meshes.Arrival.{Arrival}
+use Rattle.case_model.specs.declared.meshes.CavityRule.{CavityRule}
+use Rattle.case_model.specs.Range.{point_of, IsPoint}
+use Rattle.charline.specs.Characteristics.{impedance_head, friction_head, driven_flow, arrive_plus, arrive_minus, in_reach}
+use Rattle.charline.specs.Interior.{inner_point, meet, meet_if, meeting_head, meeting_flow, growth}
+use Rattle.charline.specs.Runs.{IsPlus, IsMinus, IsRise, IsMeeting, IsCalmPoint, rise_size}
+use Rattle.charline.proofs.Factors.{meet_halfway, flow_by_twice}
+
+pub rise_up : (b r : ℕ) (q size : ℤ) → pos 0 ≤ℤ q → size ≡ rise_size b r (unsigned_abs q) → size ≡ impedance_head (pos b) q -ℤ friction_head (pos r) q
+unfolding impedance_head friction_head rnd
+rise_up b r (pos n) size p e = e
+rise_up b r (negsuc n) size p e = absurd (omega (arith, ints))
+
+heads_down : (b r n : ℕ) → (impedance_head (pos b) (negsuc n) -ℤ friction_head (pos r) (negsuc n)) ≡ neg_ℤ (pos (half_up (b * suc n) 1000000000)) -ℤ neg_ℤ (pos (half_up (half_up (r * suc n) 1000000000000 * suc n) 1000000000000))
+unfolding impedance_head friction_head
+heads_down b r n =
+    let some : 0 < 1000000000 = omega arith in
+    let more : 0 < 1000000000000 = omega arith in
+    rw (rnd_up (r * suc n) 1000000000000, rnd_down (b * suc n) 1000000000 some, rnd_down (half_up (r * suc n) 1000000000000 * suc n) 1000000000000 more) refl
+
+turned : (x y : ℕ) → (neg_ℤ (pos x) -ℤ neg_ℤ (pos y)) ≡ pos 0 -ℤ (pos x -ℤ pos y)
+turned x y = omega (arith, ints)
+
+pub rise_down : (b r : ℕ) (q size : ℤ) → q <ℤ pos 0 → size ≡ rise_size b r (unsigned_abs q) → (pos 0 -ℤ size) ≡ impedance_head (pos b) q -ℤ friction_head (pos r) q
+rise_down b r (pos n) size p e = absurd (omega (arith, ints))
+rise_down b r (negsuc n) size p e = ap (λ (x : ℤ). pos 0 -ℤ x) e ∙ sym (turned (half_up (b * suc n) 1000000000) (half_up (half_up (r * suc n) 1000000000000 * suc n) 1000000000000)) ∙ sym (heads_down b r n)
+
+-- a value in range is that of a characteristic
+reaches : (c : ℤ) (b : ℕ) → unsigned_abs c ≤ 10000000000000 → b ≤ 10000000000000 → in_reach c (pos b) ≡ Some (record { c = c; b = pos b })
+reaches c b h k = grind (arith, ints)
+
+plus_value : (b r : ℕ) (h qu qd v rise : ℤ) → b ≤ 10000000000000 → unsigned_abs h ≤ 100000000000 → IsRise b r qd rise
+    → unsigned_abs (h +ℤ rise) ≤ 10000000000000 → arrive_plus Explicit (pos b) (pos r) (Good h qu qd v) ≡ Some (record { c = h +ℤ rise; b = pos b })
+unfolding arrive_plus
+plus_value b r h qu qd v rise k s value c =
+    let near : unsigned_abs rise ≤ 100000000000000 = omega (arith, ints) in
+    let e = value near in
+    let same : ((h +ℤ impedance_head (pos b) qd) -ℤ friction_head (pos r) qd) ≡ h +ℤ rise = omega (arith, ints) in
+    ap (λ (x : ℤ). in_reach x (pos b)) same ∙ reaches (h +ℤ rise) b c k
+
+minus_value : (b r : ℕ) (h qu qd v rise : ℤ) → b ≤ 10000000000000 → unsigned_abs h ≤ 100000000000 → IsRise b r qu rise
+    → unsigned_abs (h -ℤ rise) ≤ 10000000000000 → arrive_minus Explicit (pos b) (pos r) (Good h qu qd v) ≡ Some (record { c = h -ℤ rise; b = pos b })
+unfolding arrive_minus
+minus_value b r h qu qd v rise k s value c =
+    let near : unsigned_abs rise ≤ 100000000000000 = omega (arith, ints) in
+    let e = value near in
+    let same : ((h -ℤ impedance_head (pos b) qu) +ℤ friction_head (pos r) qu) ≡ h -ℤ rise = omega (arith, ints) in
+    ap (λ (x : ℤ). in_reach x (pos b)) same ∙ reaches (h -ℤ rise) b c k
+
+pub plus_is : (b r : ℕ) (h qu qd v rise : ℤ) → b ≤ 10000000000000 → unsigned_abs h ≤ 100000000000 → unsigned_abs rise ≤ 1000000000000000000
+    → IsRise b r qd rise → IsPlus b r (Good h qu qd v) (h +ℤ rise)
+plus_is b r h qu qd v rise k s t value = record {
+  size = omega (arith, ints);
+  value = plus_value b r h qu qd v rise k s value;
+}
+
+pub minus_is : (b r : ℕ) (h qu qd v rise : ℤ) → b ≤ 10000000000000 → unsigned_abs h ≤ 100000000000 → unsigned_abs rise ≤ 1000000000000000000
+    → IsRise b r qu rise → IsMinus b r (Good h qu qd v) (h -ℤ rise)
+minus_is b r h qu qd v rise k s t value = record {
+  size = omega (arith, ints);
+  value = minus_value b r h qu qd v rise k s value;
+}
+
+-- the same of a point and numbers as they stand in words
+double : (z : ℤ) → unsigned_abs z ≤ 2000000000000000000 → FitsSigned w64 z
+double z h = fits_signed_from_abs w64 z (omega arith)
+
+pub plus_from : (b r : ℕ) (from : Point) (h qu qd v rise : ℤ) → from ≡ Good h qu qd v → IsPoint from → b ≤ 10000000000000 → unsigned_abs rise ≤ 1000000000000000000
+    → IsRise b r (to_z w64 (of_z w64 qd)) rise → IsPlus b r from (to_z w64 (of_z w64 (to_z w64 (of_z w64 h) +ℤ to_z w64 (of_z w64 rise))))
+plus_from b r from h qu qd v rise e p k t value =
+    let p2 : IsPoint (Good h qu qd v) = subst IsPoint e p in
+    let s : unsigned_abs h ≤ 100000000000 = p2.head in
+    let l : unsigned_abs qd ≤ 1000000000000 = p2.down in
+    let fq = double qd (omega arith) in
+    let own : IsRise b r qd rise = subst (λ (x : ℤ). IsRise b r x rise) (to_z-of_z w64 qd fq) value in
+    let fh = double h (omega arith) in
+    let fr = double rise (omega arith) in
+    let fs = double (h +ℤ rise) (omega (arith, ints)) in
+    rw (e, to_z-of_z w64 h fh, to_z-of_z w64 rise fr, to_z-of_z w64 (h +ℤ rise) fs) (plus_is b r h qu qd v rise k s t own)
+
+pub minus_from : (b r : ℕ) (from : Point) (h qu qd v rise : ℤ) → from ≡ Good h qu qd v → IsPoint from → b ≤ 10000000000000 → unsigned_abs rise ≤ 1000000000000000000
+    → IsRise b r (to_z w64 (of_z w64 qu)) rise → IsMinus b r from (to_z w64 (of_z w64 (to_z w64 (of_z w64 h) -ℤ to_z w64 (of_z w64 rise))))
+minus_from b r from h qu qd v rise e p k t value =
+    let p2 : IsPoint (Good h qu qd v) = subst IsPoint e p in
+    let s : unsigned_abs h ≤ 100000000000 = p2.head in
+    let l : unsigned_abs qu ≤ 1000000000000 = p2.up in
+    let fq = double qu (omega arith) in
+    let own : IsRise b r qu rise = subst (λ (x : ℤ). IsRise b r x rise) (to_z-of_z w64 qu fq) value in
+    let fh = double h (omega arith) in
+    let fr = double rise (omega arith) in
+    let fs = double (h -ℤ rise) (omega (arith, ints)) in
+    rw (e, to_z-of_z w64 h fh, to_z-of_z w64 rise fr, to_z-of_z w64 (h -ℤ rise) fs) (minus_is b r h qu qd v rise k s t own)
+
+-- both values are in range where their half and their difference are
+near_half : (x y h : ℤ) → unsigned_abs (x -ℤ y) ≤ 9000000000 → unsigned_abs (x +ℤ y) ≤ 2 * unsigned_abs h → unsigned_abs h ≤ 100000000000 → unsigned_abs x ≤ 10000000000000
+near_half x y h d s k = omega (arith, ints)
+
+swapped : (x y : ℤ) → unsigned_abs (y -ℤ x) ≡ unsigned_abs (x -ℤ y)
+swapped x y = omega (arith, ints)
+
+between : (top h : ℤ) → unsigned_abs top ≤ 100000000000 → top ≤ℤ h → h ≤ℤ pos 100000000000 → unsigned_abs h ≤ 100000000000
+between top h k l m = omega (arith, ints)
+
+pub meets : (b : ℕ) (top x y h q : ℤ) → unsigned_abs top ≤ 100000000000 → unsigned_abs (x -ℤ y) ≤ 9000000000
+    → h ≡ rnd (x +ℤ y) (pos 2) → unsigned_abs (x +ℤ y) ≤ 2 * unsigned_abs h → top ≤ℤ h → h ≤ℤ pos 100000000000
+    → q ≡ driven_flow (x -ℤ y) (pos (2 * b)) → unsigned_abs q ≤ 1000000000000
+    → IsMeeting b top x y (to_z w64 (of_z w64 h)) (to_z w64 (of_z w64 q))
+meets b top x y h q t d e s above most f l =
+    let k = between top h t above most in
+    let fh = double h (omega arith) in
+    let fq = double q (omega arith) in
+    let n : unsigned_abs (y -ℤ x) ≤ 9000000000 = rw (swapped x y) d in
+    let m : unsigned_abs (y +ℤ x) ≤ 2 * unsigned_abs h = rw (+ℤ_comm y x) s in
+    rw (to_z-of_z w64 h fh, to_z-of_z w64 q fq) (record {
+      plus_in = near_half x y h d s k;
+      minus_in = near_half y x h n m k;
+      halfway = e;
+      driven = f;
+      above = above;
+      head_in = k;
+      flow_in = l;
+    })
+
+pub meets_in : (b most size : ℕ) (top x y h q : ℤ) → unsigned_abs top ≤ 100000000000 → most ≤ 9000000000 → unsigned_abs x ≤ 2000000000000000000 → unsigned_abs y ≤ 2000000000000000000
+    → size ≡ unsigned_abs (to_z w64 (of_z w64 (to_z w64 (of_z w64 x) -ℤ to_z w64 (of_z w64 y)))) → size ≤ most
+    → h ≡ rnd (to_z w64 (of_z w64 (to_z w64 (of_z w64 x) +ℤ to_z w64 (of_z w64 y)))) (pos 2)
+    → unsigned_abs (to_z w64 (of_z w64 (to_z w64 (of_z w64 x) +ℤ to_z w64 (of_z w64 y)))) ≤ 2 * unsigned_abs h
+    → top ≤ℤ h → h ≤ℤ pos 100000000000
+    → q ≡ driven_flow (to_z w64 (of_z w64 (to_z w64 (of_z w64 x) -ℤ to_z w64 (of_z w64 y)))) (pos (2 * b)) → unsigned_abs q ≤ 1000000000000
+    → IsMeeting b top x y (to_z w64 (of_z w64 h)) (to_z w64 (of_z w64 q))
+meets_in b most size top x y h q t n fx fy d e g s above below f l =
+    let ex = to_z-of_z w64 x (double x fx) in
+    let ey = to_z-of_z w64 y (double y fy) in
+    let es = to_z-of_z w64 (x +ℤ y) (fits_signed_from_abs w64 (x +ℤ y) (omega (arith, ints))) in
+    let ed = to_z-of_z w64 (x -ℤ y) (fits_signed_from_abs w64 (x -ℤ y) (omega (arith, ints))) in
+    let d2 : size ≡ unsigned_abs (x -ℤ y) = rw (ex, ey, ed) at d in
+    let g2 : h ≡ rnd (x +ℤ y) (pos 2) = rw (ex, ey, es) at g in
+    let s2 : unsigned_abs (x +ℤ y) ≤ 2 * unsigned_abs h = rw (ex, ey, es) at s in
+    let f2 : q ≡ driven_flow (x -ℤ y) (pos (2 * b)) = rw (ex, ey, ed) at f in
+    meets b top x y h q t (omega arith) g2 s2 above below f2 l
+
+-- where two characteristics of the pipe's impedance meet
+met_head : (b : ℕ) (plus minus : ℤ) → 0 < b → meeting_head (record { c = plus; b = pos b }) (record { c = minus; b = pos b }) ≡ rnd (plus +ℤ minus) (pos 2)
+met_head b plus minus p = meet_halfway (record { c = plus; b = pos b }) (record { c = minus; b = pos b }) refl (omega (arith, ints))
+
+met_flow : (b : ℕ) (plus minus : ℤ) → meeting_flow (record { c = plus; b = pos b }) (record { c = minus; b = pos b }) ≡ driven_flow (plus -ℤ minus) (pos (2 * b))
+met_flow b plus minus = flow_by_twice (record { c = plus; b = pos b }) (record { c = minus; b = pos b }) refl
+
+in_range : (h q : ℤ) → unsigned_abs h ≤ 100000000000 → unsigned_abs q ≤ 1000000000000 → point_of h q q (pos 0) ≡ Good h q q (pos 0)
+unfolding point_of
+in_range h q k l = grind (arith, ints)
+
+meet_calm : (rule : CavityRule) (plus minus : Arrival) (h q g : ℤ) → meeting_head plus minus ≡ h → meeting_flow plus minus ≡ q → rule.hv ≤ℤ h → unsigned_abs h ≤ 100000000000 → unsigned_abs q ≤ 1000000000000
+    → meet rule plus minus (pos 0) g ≡ Good h q q (pos 0)
+unfolding meet
+meet_calm rule plus minus h q g e f above k l =
+    let over : int_le rule.hv h ≡ true = grind (arith, ints) in
+    rw (e, f, over) (in_range h q k l)
+
+pub calm_law : (b r : ℕ) (top plus minus h q h0 qu qd : ℤ) → 0 < b → IsMeeting b top plus minus h q → IsCalmPoint b r top plus (Good h0 qu qd (pos 0)) minus (Good h q q (pos 0))
+unfolding inner_point
+calm_law b r top plus minus h q h0 qu qd some m = λ rule left right below ip im.
+    let one : Arrival = record { c = plus; b = pos b } in
+    let two : Arrival = record { c = minus; b = pos b } in
+    let hv : rule.hv ≤ℤ h = omega (arith, ints, m.above) in
+    sym (ap (λ (a : Option Arrival). meet_if rule a (arrive_minus Explicit (pos b) (pos r) right) (pos 0) (growth qu qd)) (ip.value m.plus_in)
+    ∙ ap (λ (a : Option Arrival). meet_if rule (Some one) a (pos 0) (growth qu qd)) (im.value m.minus_in)
+    ∙ meet_calm rule one two h q (growth qu qd) (met_head b plus minus some ∙ sym m.halfway) (met_flow b plus minus ∙ sym m.driven) hv m.head_in m.flow_in)
+
+pub calm_from : (b r : ℕ) (top plus minus h q : ℤ) (own : Point) (h0 qu qd v : ℤ) → own ≡ Good h0 qu qd v → v ≡ pos 0 → 0 < b
+    → unsigned_abs plus ≤ 2000000000000000000 → unsigned_abs minus ≤ 2000000000000000000
+    → IsMeeting b top (to_z w64 (of_z w64 plus)) (to_z w64 (of_z w64 minus)) h q
+    → IsCalmPoint b r top plus own minus (Good (to_z w64 (of_z w64 h)) (to_z w64 (of_z w64 q)) (to_z w64 (of_z w64 q)) (pos 0))
+calm_from b r top plus minus h q own h0 qu qd v e z some p n m =
+    let hin : unsigned_abs h ≤ 100000000000 = m.head_in in
+    let qin : unsigned_abs q ≤ 1000000000000 = m.flow_in in
+    let fh = double h (omega arith) in
+    let fq = double q (omega arith) in
+    let m2 : IsMeeting b top plus minus h q = rw (to_z-of_z w64 plus (double plus p), to_z-of_z w64 minus (double minus n)) at m in
+    rw (e, z, to_z-of_z w64 h fh, to_z-of_z w64 q fq) (calm_law b r top plus minus h q h0 qu qd some m2)

@@ -1,0 +1,75 @@
+-- Runs of inner places of a pipe with friction taken explicitly: what they are computed with, and
+-- values that stand for the characteristics between them.
+use Rattle.std.specs.Prelude.{◌≡◌, ◌≤◌, ◌<◌, ◌+◌, ◌*◌, ℕ, ℤ, pos, ◌+ℤ◌, ◌-ℤ◌, ◌≤ℤ◌, unsigned_abs}
+use Rattle.std.specs.Prelude.{Some}
+use Rattle.fixed_num.specs.Rounding.{rnd, half_up}
+use Rattle.case_model.specs.declared.cases.Friction.TheVariants.{Explicit}
+use Rattle.case_model.specs.declared.points.Point.{Point}
+use Rattle.case_model.specs.declared.meshes.CavityRule.{CavityRule}
+use Rattle.charline.specs.Characteristics.{arrive_plus, arrive_minus}
+use Rattle.charline.specs.Characteristics.{impedance_head, friction_head, driven_flow}
+use Rattle.charline.specs.Interior.{inner_point}
+
+-- a friction in units of 2^-80 of 1e12 s2/m5, less than two units too low; the numerals are 5^24
+-- and 2^56, since 10^24 / 2^80 is 5^24 / 2^56
+pub record IsScaled (r scaled : ℕ) : Type 0 where
+  pub below : scaled * 59_604_644_775_390_625 ≤ r * 72_057_594_037_927_936
+  pub above : r * 72_057_594_037_927_936 < (scaled + 2) * 59_604_644_775_390_625
+
+-- an impedance in 1e-6 s/m2, a friction in 1e-12 s2/m5 and the same scaled, a difference of heads
+-- that drives no more than the greatest flow through twice the impedance, a flow in 1e-9 m3/s up to
+-- which 64 bits suffice, and a head in 1e-6 m
+pub record IsPrepared (b r most scaled few : ℕ) (top : ℤ) : Type 0 where
+  pub low : 100_000 ≤ b
+  pub high : b ≤ 10_000_000_000_000
+  pub friction : r ≤ 7_000_000_000_000_000_000
+  pub difference : most ≤ 9_000_000_000
+  pub flow : most ≤ 2_000 * b
+  pub scaling : IsScaled r scaled
+  pub slow : few < 2_147_483_648
+  pub product : b * few < 9_223_372_036_854_775_808
+  pub head : unsigned_abs top ≤ 100_000_000_000
+
+-- a value that is that of the characteristic C+ of a point, or out of the range of characteristics
+pub record IsPlus (b r : ℕ) (from : Point) (c : ℤ) : Type 0 where
+  pub size : unsigned_abs c ≤ 2_000_000_000_000_000_000
+  pub value : unsigned_abs c ≤ 10_000_000_000_000
+      → arrive_plus Explicit (pos b) (pos r) from ≡ Some (record { c = c; b = pos b })
+
+-- the same of C-
+pub record IsMinus (b r : ℕ) (from : Point) (c : ℤ) : Type 0 where
+  pub size : unsigned_abs c ≤ 2_000_000_000_000_000_000
+  pub value : unsigned_abs c ≤ 10_000_000_000_000
+      → arrive_minus Explicit (pos b) (pos r) from ≡ Some (record { c = c; b = pos b })
+
+-- the size of the head that a flow of this size stands for, less that which friction takes from it
+abbrev pub rise_size : ℕ → ℕ → ℕ → ℤ
+rise_size b r flow =
+    pos (half_up (b * flow) 1_000_000_000)
+    -ℤ pos (half_up (half_up (r * flow) 1_000_000_000_000 * flow) 1_000_000_000_000)
+
+-- the head that a flow stands for less that which friction takes from it, or one out of the range
+-- of characteristics
+abbrev pub IsRise : ℕ → ℕ → ℤ → ℤ → Type 0
+IsRise b r q rise =
+    unsigned_abs rise ≤ 100_000_000_000_000
+    → rise ≡ impedance_head (pos b) q -ℤ friction_head (pos r) q
+
+-- a head from `top` on and a flow, both in range, at which two values of characteristics meet that
+-- are in range and have twice this impedance between them
+pub record IsMeeting (b : ℕ) (top plus minus head flow : ℤ) : Type 0 where
+  pub plus_in : unsigned_abs plus ≤ 10_000_000_000_000
+  pub minus_in : unsigned_abs minus ≤ 10_000_000_000_000
+  pub halfway : head ≡ rnd (plus +ℤ minus) (pos 2)
+  pub driven : flow ≡ driven_flow (plus -ℤ minus) (pos (2 * b))
+  pub above : top ≤ℤ head
+  pub head_in : unsigned_abs head ≤ 100_000_000_000
+  pub flow_in : unsigned_abs flow ≤ 1_000_000_000_000
+
+-- a point is that of the interior law for each two neighbours with these characteristics, and each
+-- vapour head up to `top`
+abbrev pub IsCalmPoint : ℕ → ℕ → ℤ → ℤ → Point → ℤ → Point → Type 0
+IsCalmPoint b r top plus own minus next =
+    (rule : CavityRule) (left right : Point) → rule.hv ≤ℤ top → IsPlus b r left plus
+    → IsMinus b r right minus
+    → next ≡ inner_point Explicit rule (pos b) (pos r) left own right
