@@ -1,4 +1,3 @@
-mod Banding
 pub mod Lining
 mod Making
 pub mod Raising

@@ -1,6 +1,6 @@
 -- Bands of a stretch: the places whose distance is in an interval, which one step of the law
 -- raises together.
-use Rattle.std.specs.Prelude.{◌≡◌, ℕ, ◌+◌, ◌-◌, ◌<◌, ◌≤◌, ◌⊎◌, ◌^◌, List, length, max, min}
+use Rattle.std.specs.Prelude.{◌≡◌, ℕ, ◌+◌, ◌-◌, ◌<◌, ◌≤◌, ◌⊎◌, ◌^◌, List, length, min}
 use Rattle.case_model.specs.declared.points.Point.{Point}
 use Rattle.case_model.specs.Meaning.{Meaning}
 use Rattle.case_model.specs.Mesh.{reaches}
@@ -51,13 +51,3 @@ pub record AreMade (law : Meaning) (places : Places) (earlier old new : List Poi
       ≡ law.inner places.pipe (places.first + x)
       (point_at earlier (x - 1)) (point_at earlier x) (point_at earlier (x + 1))
   pub outside : (x : ℕ) → (x < places.low) ⊎ (places.high ≤ x) → point_at new x ≡ point_at old x
-
--- the runs of places of 0 to n that are at least `low` and less than `high` from the nearer end:
--- from `low` up to the middle or to `gap`, and from `from` on
-pub record AreRuns (n low high gap from until : ℕ) : Type 0 where
-  pub some : 0 < low
-  pub order : low < high
-  pub inside : low < n
-  pub gap_is : gap ≡ max low (min high (n + 1 - low))
-  pub from_is : from ≡ max (n + 1 - high) gap
-  pub until_is : until ≡ max from (n + 1 - low)

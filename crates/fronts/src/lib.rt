@@ -3,7 +3,6 @@
 //! step, and how points are noted.
 #![tactic(auto)]
 
-mod bands;
 mod noting;
 mod ranges;
 mod stencil;

@@ -4,12 +4,11 @@ ghost use Rattle.std.specs.List.{All};
 ghost use Rattle.case_model.specs.Meaning.{Meaning, IsMeaning};
 ghost use Rattle.case_model.specs.Mesh.{reaches};
 ghost use Rattle.case_model.specs.Range.{IsPoint};
-ghost use Rattle.fronts.specs.Bands.{AreMade, IsOnMesh, IsStepped, from_ends};
+ghost use Rattle.fronts.specs.Bands.{AreMade, IsOnMesh, IsStepped};
 ghost use Rattle.fronts.specs.Fronts.{Holds, Raises};
 ghost use Rattle.fronts.specs.Stretches.{count_of};
 
 use crate::Stretch;
-use crate::bands::runs_of;
 use crate::ranges::keeps_range;
 use case_model::{Law, Point};
 
@@ -27,23 +26,6 @@ impl Stretch {
             Holds (L.meaning law.now) since later self.new }
     {
         self.raise_run(law, step, low, high);
-    }
-
-    /// Raises the places whose distance from the nearer end of the stretch is at least `low` and
-    /// below `high`.
-    pub fn step_band<L: Law>(&mut self, law: &L, step: u64, low: usize, high: usize)
-        requires on_mesh { IsOnMesh (L.meaning law.now) self.old }
-        requires after_first { 0 < low }
-        requires long { 2 ≤ count_of self.old }
-        ensures stepped { let distance = from_ends (count_of self.old - 1) in
-            IsStepped (L.meaning law.now) step distance low high self.old self.new }
-        ensures holds { (since front later : ℕ → ℕ) →
-            Raises step (from_ends (count_of self.old - 1)) low high (count_of self.old) since
-            front later →
-            Holds (L.meaning law.now) since front self.old →
-            Holds (L.meaning law.now) since later self.new }
-    {
-        self.raise_band(law, step, low, high);
     }
 
     // As `step_run`.
@@ -66,22 +48,6 @@ impl Stretch {
             } else {
                 step_places(law, places, &self.odd, &mut self.even);
             }
-        }
-    }
-
-    // As `step_band`: the places up to the middle, and those beyond.
-    fn raise_band<L: Law>(&mut self, law: &L, step: u64, low: usize, high: usize)
-        requires on_mesh { IsOnMesh (L.meaning law.now) self.old }
-        requires after_first { 0 < low }
-        requires long { 2 ≤ count_of self.old }
-        ensures { let distance = from_ends (count_of self.old - 1) in
-            IsStepped (L.meaning law.now) step distance low high self.old self.new }
-    {
-        let last = self.count() - 1;
-        if low < high && low < last {
-            let runs = runs_of(last, low, high);
-            self.raise_run(law, step, low, runs.gap);
-            self.raise_run(law, step, runs.from, runs.until);
         }
     }
 }

@@ -1,11 +1,14 @@
 -- One front after another: what the steps of a region make together.
-use Rattle.std.proofs.Common.{◌≡◌, ℕ, ◌+◌, ◌-◌, ◌*◌, ◌/◌, ◌<◌, ◌≤◌, ◌⊎◌, inl, inr, ◌∙◌, ap, sym, subst, max, refl, arith, Bool, true, false}
-use Rattle.std.specs.Prelude.{◌||◌}
+use Rattle.std.proofs.Common.{◌≡◌, ℕ, ◌+◌, ◌-◌, ◌*◌, ◌/◌, ◌<◌, ◌≤◌, ◌⊎◌, inl, inr, ◌∙◌, ap, sym, subst, max, refl, arith, Bool, true, false, cond}
+use Rattle.std.specs.Prelude.{◌||◌, ◌&&◌, nat_le, nat_lt}
+use Rattle.std.proofs.Math.Bool.{and-false}
+use Rattle.std.proofs.lemmas.Bool.{le-leb, le-ltb, lt-leb, lt-ltb}
+use Rattle.envelope.specs.Cells.{AreInOneSpan, end_of_span, first_of_span}
 use Rattle.case_model.specs.Meaning.{Meaning}
-use Rattle.envelope.specs.Folds.{IsSameFold, Stands}
+use Rattle.envelope.specs.Folds.{IsSameFold, Stands, spans_of}
 use Rattle.envelope.specs.declared.folds.Fold.{Fold}
 use Rattle.fronts.specs.Bands.{from_ends}
-use Rattle.fronts.specs.Fronts.{Holds, Raises, ever, loaded, risen, swept, tent}
+use Rattle.fronts.specs.Fronts.{Holds, IsReady, Raises, ever, loaded, risen, swept, tent}
 use Rattle.fronts.specs.Stretches.{AreSamePlaces, count_of}
 use Rattle.fronts.specs.declared.stretches.Stretch.{Stretch}
 use Rattle.fronts.proofs.Lining.{where-is}
@@ -201,3 +204,165 @@ advanced-end law since from front later old new before after e h =
     advanced-more law since from front later old new new before after after
     (λ x l. let p : from x ≤ front x = (e x l).0 in let q : front x ≡ later x = (e x l).1 in (p, omega arith)) h
     (advanced-none law since front later new after h.holds (λ x l. let c : count_of new ≡ count_of old = h.same.count_is in (e x (omega arith)).1))
+
+-- ---- a band of places as runs
+
+raises-order : (step : ℕ) (distance : ℕ → ℕ) (low high count : ℕ) (since front later : ℕ → ℕ)
+    → Raises step distance low high count since front later → (x : ℕ) → x < count
+    → front x ≤ later x
+raises-order step distance low high count since front later ra x b =
+    elim (inside (distance x) low high) [
+      | inl a ↦
+          let f : front x ≡ step = (ra.own x b a.0 a.1).1 in
+          let g : later x ≡ step + 1 = ra.raised x b a.0 a.1 in
+          omega arith
+      | inr a ↦ let g : later x ≡ front x = ra.others x b a in omega arith
+    ]
+  where
+    inside : (d low high : ℕ) → ((low ≤ d) × (d < high)) ⊎ ((d < low) ⊎ (high ≤ d))
+    inside d low high = grind arith
+
+-- the band reaches the middle: it is one run
+pub raises-whole : (step count low high : ℕ) (front later : ℕ → ℕ) → 1 ≤ low
+    → (count - 1) / 2 < high
+    → Raises step (from_ends (count - 1)) low high count ever front later
+    → Raises step (λ x. x) low (count - low) count ever front later
+raises-whole step count low high front later a m ra = record {
+  own = λ x b i j. ra.own x b (omega arith) (omega arith);
+  left = λ x b i j. ra.left x b (omega arith) (omega arith);
+  right = λ x b i j. ra.right x b (omega arith) (omega arith);
+  raised = λ x b i j. ra.raised x b (omega arith) (omega arith);
+  others = λ x b e. ra.others x b (elim e [ inl f ↦ inl (omega arith) | inr f ↦ inl (omega arith) ]);
+}
+
+-- the front once the run before the middle is raised
+pub halfway : ℕ → ℕ → ℕ → (ℕ → ℕ) → ℕ → ℕ
+halfway step low high front x = cond (nat_le low x && nat_lt x high) (step + 1) (front x)
+
+halfway-in : (step low high : ℕ) (front : ℕ → ℕ) (x : ℕ) → low ≤ x → x < high
+    → halfway step low high front x ≡ step + 1
+unfolding halfway
+halfway-in step low high front x a b = rw (le-leb low x a, lt-ltb x high b) refl
+
+halfway-out : (step low high : ℕ) (front : ℕ → ℕ) (x : ℕ) → (x < low) ⊎ (high ≤ x)
+    → halfway step low high front x ≡ front x
+unfolding halfway
+halfway-out step low high front x (inl a) = rw (lt-leb low x a) refl
+halfway-out step low high front x (inr a) = rw (le-ltb x high a, and-false) refl
+
+halfway-ready : (step low high : ℕ) (front : ℕ → ℕ) (x : ℕ) → IsReady step ever front x
+    → IsReady step ever (halfway step low high front) x
+halfway-ready step low high front x h = elim (inside x low high) [
+  | inl a ↦
+      let e : halfway step low high front x ≡ step + 1 = halfway-in step low high front x a.0 a.1 in
+      record { low = omega arith; high = omega arith; near = omega arith }
+  | inr a ↦
+      let e : halfway step low high front x ≡ front x = halfway-out step low high front x a in
+      let p : step ≤ front x = h.high in
+      let q : front x ≤ step + 1 = h.near in
+      record { low = omega arith; high = omega arith; near = omega arith }
+]
+  where
+    inside : (d low high : ℕ) → ((low ≤ d) × (d < high)) ⊎ ((d < low) ⊎ (high ≤ d))
+    inside d low high = grind arith
+
+pub raises-near : (step count low high : ℕ) (front later : ℕ → ℕ) → high ≤ (count - 1) / 2
+    → Raises step (from_ends (count - 1)) low high count ever front later
+    → Raises step (λ x. x) low high count ever front (halfway step low high front)
+raises-near step count low high front later m ra = record {
+  own = λ x b i j. ra.own x b (omega arith) (omega arith);
+  left = λ x b i j. ra.left x b (omega arith) (omega arith);
+  right = λ x b i j. ra.right x b (omega arith) (omega arith);
+  raised = λ x b i j. halfway-in step low high front x i j;
+  others = λ x b e. halfway-out step low high front x e;
+}
+
+pub raises-far : (step count low high : ℕ) (front later : ℕ → ℕ) → 1 ≤ low
+    → low < high → high ≤ (count - 1) / 2
+    → Raises step (from_ends (count - 1)) low high count ever front later
+    → Raises step (λ x. x) (count - high) (count - low) count ever
+    (halfway step low high front) later
+raises-far step count low high front later a o m ra = record {
+  own = λ x b i j.
+      let e : halfway step low high front x ≡ front x =
+      halfway-out step low high front x (inr (omega arith)) in
+      let f : front x ≡ step = (ra.own x b (omega arith) (omega arith)).1 in
+      (omega arith, omega arith);
+  left = λ x b i j. halfway-ready step low high front (x - 1)
+      (ra.left x b (omega arith) (omega arith));
+  right = λ x b i j. halfway-ready step low high front (x + 1)
+      (ra.right x b (omega arith) (omega arith));
+  raised = λ x b i j. ra.raised x b (omega arith) (omega arith);
+  others = λ x b e. elim (where-is x low high) [
+    | inl c ↦ ra.others x b (inl (omega arith)) ∙ sym (halfway-out step low high front x (inl c))
+    | inr d ↦ elim d [
+      | inr c ↦
+          let lo : low ≤ x = c.0 in
+          let hi : x < high = c.1 in
+          ra.raised x b (omega arith) (omega arith) ∙ sym (halfway-in step low high front x lo hi)
+      | inl c ↦
+          ra.others x b (elim e [ inl f ↦ inr (omega arith) | inr f ↦ inl (omega arith) ])
+          ∙ sym (halfway-out step low high front x (inr c))
+    ]
+  ];
+}
+
+-- two runs, one after the other
+pub advanced-runs : (law : Meaning) (step low high : ℕ) (front later : ℕ → ℕ)
+    (old mid new : Stretch) (first second third : Fold)
+    → 1 ≤ low → low < high → high ≤ (count_of old - 1) / 2 → AreSamePlaces old mid
+    → Raises step (from_ends (count_of old - 1)) low high (count_of old) ever front later
+    → Holds law ever front old
+    → ((since front later : ℕ → ℕ) → Raises step (λ x. x) low high (count_of old) since front later
+    → Holds law since front old → IsAdvanced law since front later old mid first second)
+    → ((since front later : ℕ → ℕ)
+    → Raises step (λ x. x) (count_of old - high) (count_of old - low) (count_of mid) since front later
+    → Holds law since front mid → IsAdvanced law since front later mid new second third)
+    → IsAdvanced law ever front later old new first third
+advanced-runs law step low high front later old mid new first second third a o m same ra h f g =
+    let count = count_of old in
+    let half = halfway step low high front in
+    let near = raises-near step count low high front later m ra in
+    let far = raises-far step count low high front later a o m ra in
+    let one = f ever front half near h in
+    advanced-more law ever front half later old mid new first second third
+    (λ x b. (
+      raises-order step (λ y. y) low high count ever front half near x b,
+      raises-order step (λ y. y) (count - high) (count - low) count ever half later far x b,
+    ))
+    one
+    (g ever half later
+    (subst (λ n. Raises step (λ y. y) (count - high) (count - low) n ever half later)
+    (sym same.count_is) far)
+    one.holds)
+
+-- no place is in the band
+pub advanced-empty : (law : Meaning) (step low high : ℕ) (front later : ℕ → ℕ) (old : Stretch)
+    (fold : Fold)
+    → (high ≤ low) ⊎ ((count_of old - 1) / 2 < low)
+    → Raises step (from_ends (count_of old - 1)) low high (count_of old) ever front later
+    → Holds law ever front old
+    → IsAdvanced law ever front later old old fold fold
+advanced-empty law step low high front later old fold e ra h =
+    advanced-none law ever front later old fold h
+    (λ x b. sym (ra.others x b (elim e [
+      | inl a ↦ empty (from_ends (count_of old - 1) x) low high a
+      | inr a ↦ inl (omega arith)
+    ])))
+  where
+    empty : (d low high : ℕ) → high ≤ low → (d < low) ⊎ (high ≤ d)
+    empty d low high a = grind arith
+
+-- a run of places that the fold has
+pub notes-run : (stretch : Stretch) (fold : Fold) (low high : ℕ) → 1 ≤ low → low ≤ high
+    → high + 1 ≤ count_of stretch → NotesInside stretch fold
+    → AreInOneSpan (spans_of fold) (stretch.number + low) (high - low)
+notes-run stretch fold low high a b c h = (
+  h.0,
+  record {
+    there = h.1.there;
+    low = (let l : first_of_span (spans_of fold) h.0 ≤ stretch.number + 1 = h.1.low in omega arith);
+    high = (let l : stretch.number + 1 + (count_of stretch - 2) ≤ end_of_span (spans_of fold) h.0 =
+        h.1.high in omega arith);
+  },
+)

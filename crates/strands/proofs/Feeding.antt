@@ -21,7 +21,7 @@ use Rattle.strands.specs.Marks.{start_marks}
 use Rattle.strands.specs.Sections.{IsLine}
 use Rattle.strands.specs.Tents.{IsSectionAt, fed, has_block}
 use Rattle.strands.specs.declared.tents.Section.{Section}
-use Rattle.strands.specs.Words.{IsBare, raised}
+use Rattle.strands.specs.Blocks.{IsBare, raised}
 
 -- ---- the initial row
 

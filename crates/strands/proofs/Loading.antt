@@ -3,16 +3,14 @@ use Rattle.std.proofs.Common.{◌≡◌, ℕ, ◌+◌, ◌-◌, ◌*◌, ◌/◌
 use Rattle.std.specs.Prelude.{◌≢◌, nat_eq}
 use Rattle.std.proofs.lemmas.Bool.{eq-eqb, le-ltb, lt-ltb, ne_eqb}
 use Rattle.case_model.specs.declared.points.Point.{Point}
-use Rattle.case_model.specs.Meaning.{IsMeaning, Meaning}
-use Rattle.case_model.specs.Range.{IsPoint}
-use Rattle.case_model.specs.Words.{words_of}
-use Rattle.case_model.proofs.RowLaws.{row-good}
+use Rattle.case_model.specs.Meaning.{Meaning}
+use Rattle.case_model.specs.Runs.{point_at}
 use Rattle.fronts.specs.Bands.{from_ends}
 use Rattle.fronts.specs.Fronts.{Holds, Puts, ever, spot}
 use Rattle.fronts.specs.Stretches.{AreSamePlaces, count_of}
 use Rattle.fronts.specs.declared.stretches.Stretch.{Stretch}
 use Rattle.fronts.proofs.Raising.{same-spot}
-use Rattle.strands.specs.Words.{HasPoints, IsBare, from_end, loading, quad, raised, station_side, station_step}
+use Rattle.strands.specs.Blocks.{HasPoints, IsBare, from_end, loading, raised, station_side, station_step}
 
 -- ---- the front while it is loaded
 
@@ -142,12 +140,12 @@ puts-alone left n w s d place count front h b size =
       beside = λ x b k. (stays left n w s d place count front h size x b k, omega arith);
     }
 
--- ---- the points of the words
+-- ---- the points of the block
 
-step-first : (w s d : ℕ) → 2 * d + 1 < w → s + (w - d) - 1 ≡ s + station_step w (2 * d)
+pub step-first : (w s d : ℕ) → 2 * d + 1 < w → s + (w - d) - 1 ≡ s + station_step w (2 * d)
 step-first w s d h = rw (ne_eqb (2 * d + 1) w (λ e. omega arith)) (omega arith)
 
-step-second : (w s d : ℕ) → 2 * d + 1 < w → s + (w - d) ≡ s + station_step w (2 * d + 1)
+pub step-second : (w s d : ℕ) → 2 * d + 1 < w → s + (w - d) ≡ s + station_step w (2 * d + 1)
 step-second w s d h = elim (below (2 * d + 1 + 1) w) [
   | inl a ↦ rw (ne_eqb (2 * d + 1 + 1) w (λ e. omega arith)) (omega arith)
   | inr a ↦ rw (eq-eqb (2 * d + 1 + 1) w (omega arith)) (omega arith)
@@ -156,49 +154,54 @@ step-second w s d h = elim (below (2 * d + 1 + 1) w) [
     below : (x y : ℕ) → (x < y) ⊎ (y ≤ x)
     below x y = grind arith
 
-step-alone : (w s d : ℕ) → 2 * d < w → w ≤ 2 * d + 1 → s + (w - d) ≡ s + station_step w (2 * d)
+pub step-alone : (w s d : ℕ) → 2 * d < w → w ≤ 2 * d + 1 → s + (w - d) ≡ s + station_step w (2 * d)
 step-alone w s d h g = rw (eq-eqb (2 * d + 1) w (omega arith)) (omega arith)
 
--- point number j of the words is that of the rows
-point-of : (law : Meaning) (stretch : Stretch) (left : Bool) (n w s d j step place : ℕ) (words : List ℕ) (point : Point)
-    → IsMeaning law → count_of stretch ≡ n + 1 → j < w → j / 2 ≡ d → place ≡ from_end left n d
-    → step ≡ s + station_step w j → HasPoints w (station_side law stretch left w s) words
-    → ((p : Point) → IsPoint p → quad words j ≡ words_of p → point ≡ p)
+-- point number j of the block is that of the rows
+point-of : (law : Meaning) (stretch : Stretch) (left : Bool) (n w s d j step place : ℕ)
+    (points : List Point) (point : Point)
+    → count_of stretch ≡ n + 1 → j < w → j / 2 ≡ d → place ≡ from_end left n d
+    → step ≡ s + station_step w j → HasPoints w (station_side law stretch left w s) points
+    → point ≡ point_at points j
     → point ≡ spot law stretch step place
 unfolding station_side
-point-of law stretch left n w s d j step place words point m size b half at e points tells =
+point-of law stretch left n w s d j step place points point size b half at e has is =
     let c : count_of stretch - 1 ≡ n = omega arith in
-    tells (spot law stretch (s + station_step w j) (from_end left (count_of stretch - 1) (j / 2)))
-    ((row-good law m (s + station_step w j)).points stretch.pipe (stretch.first + from_end left (count_of stretch - 1) (j / 2)))
-    (points.each j b)
+    is ∙ has.each j b
     ∙ ap (λ z. spot law stretch (s + station_step w j) (from_end left z (j / 2))) c
     ∙ ap (λ z. spot law stretch (s + station_step w j) (from_end left n z)) half
     ∙ ap (spot law stretch (s + station_step w j)) (sym at)
     ∙ ap (λ t. spot law stretch t place) (sym e)
 
-pub point-first : (law : Meaning) (stretch : Stretch) (left : Bool) (n w s d place : ℕ) (words : List ℕ) (point : Point)
-    → IsMeaning law → count_of stretch ≡ n + 1 → 2 * d + 1 < w → place ≡ from_end left n d
-    → HasPoints w (station_side law stretch left w s) words
-    → ((p : Point) → IsPoint p → quad words (2 * d) ≡ words_of p → point ≡ p)
+pub point-first : (law : Meaning) (stretch : Stretch) (left : Bool) (n w s d place : ℕ)
+    (points : List Point) (point : Point)
+    → count_of stretch ≡ n + 1 → 2 * d + 1 < w → place ≡ from_end left n d
+    → HasPoints w (station_side law stretch left w s) points
+    → point ≡ point_at points (2 * d)
     → point ≡ spot law stretch (s + (w - d) - 1) place
-point-first law stretch left n w s d place words point m size b at points tells =
-    point-of law stretch left n w s d (2 * d) (s + (w - d) - 1) place words point m size (omega arith) (omega arith) at (step-first w s d b) points tells
+point-first law stretch left n w s d place points point size b at has is =
+    point-of law stretch left n w s d (2 * d) (s + (w - d) - 1) place points point size
+    (omega arith) (omega arith) at (step-first w s d b) has is
 
-pub point-second : (law : Meaning) (stretch : Stretch) (left : Bool) (n w s d place : ℕ) (words : List ℕ) (point : Point)
-    → IsMeaning law → count_of stretch ≡ n + 1 → 2 * d + 1 < w → place ≡ from_end left n d
-    → HasPoints w (station_side law stretch left w s) words
-    → ((p : Point) → IsPoint p → quad words (2 * d + 1) ≡ words_of p → point ≡ p)
+pub point-second : (law : Meaning) (stretch : Stretch) (left : Bool) (n w s d place : ℕ)
+    (points : List Point) (point : Point)
+    → count_of stretch ≡ n + 1 → 2 * d + 1 < w → place ≡ from_end left n d
+    → HasPoints w (station_side law stretch left w s) points
+    → point ≡ point_at points (2 * d + 1)
     → point ≡ spot law stretch (s + (w - d)) place
-point-second law stretch left n w s d place words point m size b at points tells =
-    point-of law stretch left n w s d (2 * d + 1) (s + (w - d)) place words point m size b (omega arith) at (step-second w s d b) points tells
+point-second law stretch left n w s d place points point size b at has is =
+    point-of law stretch left n w s d (2 * d + 1) (s + (w - d)) place points point size b
+    (omega arith) at (step-second w s d b) has is
 
-pub point-alone : (law : Meaning) (stretch : Stretch) (left : Bool) (n w s d place : ℕ) (words : List ℕ) (point : Point)
-    → IsMeaning law → count_of stretch ≡ n + 1 → 2 * d < w → w ≤ 2 * d + 1 → place ≡ from_end left n d
-    → HasPoints w (station_side law stretch left w s) words
-    → ((p : Point) → IsPoint p → quad words (2 * d) ≡ words_of p → point ≡ p)
+pub point-alone : (law : Meaning) (stretch : Stretch) (left : Bool) (n w s d place : ℕ)
+    (points : List Point) (point : Point)
+    → count_of stretch ≡ n + 1 → 2 * d < w → w ≤ 2 * d + 1 → place ≡ from_end left n d
+    → HasPoints w (station_side law stretch left w s) points
+    → point ≡ point_at points (2 * d)
     → point ≡ spot law stretch (s + (w - d)) place
-point-alone law stretch left n w s d place words point m size b g at points tells =
-    point-of law stretch left n w s d (2 * d) (s + (w - d)) place words point m size b (omega arith) at (step-alone w s d b g) points tells
+point-alone law stretch left n w s d place points point size b g at has is =
+    point-of law stretch left n w s d (2 * d) (s + (w - d)) place points point size b
+    (omega arith) at (step-alone w s d b g) has is
 
 -- ---- all distances
 
@@ -238,14 +241,18 @@ loading-all law stretch left n w s k front size e a bare h = record {
 }
 
 -- the block of a stretch of the same places
-pub same-points : (law : Meaning) (old new : Stretch) (left : Bool) (w s : ℕ) (words : List ℕ) → AreSamePlaces old new
-    → HasPoints w (station_side law old left w s) words → HasPoints w (station_side law new left w s) words
+pub same-points : (law : Meaning) (old new : Stretch) (left : Bool) (w s : ℕ) (points : List Point)
+    → AreSamePlaces old new
+    → HasPoints w (station_side law old left w s) points
+    → HasPoints w (station_side law new left w s) points
 unfolding station_side
-same-points law old new left w s words same h = record {
+same-points law old new left w s points same h = record {
   each = λ j b.
       h.each j b
-      ∙ ap words_of (ap (λ z. spot law old (s + station_step w j) (from_end left (z - 1) (j / 2))) (sym same.count_is)
-      ∙ sym (same-spot law old new (s + station_step w j) (from_end left (count_of new - 1) (j / 2)) same));
+      ∙ (ap (λ z. spot law old (s + station_step w j) (from_end left (z - 1) (j / 2)))
+      (sym same.count_is)
+      ∙ sym (same-spot law old new (s + station_step w j)
+      (from_end left (count_of new - 1) (j / 2)) same));
 }
 
 pub end-inside : (left : Bool) (n d count : ℕ) → d ≤ n → count ≡ n + 1 → from_end left n d < count

@@ -14,12 +14,11 @@ use Rattle.envelope.specs.Extremes.{first_of}
 use Rattle.envelope.specs.Notings.{Agree, Noted, Noting, union}
 use Rattle.envelope.specs.Notings.Noting.{OfPoint}
 use Rattle.envelope.specs.Rows.{noting_at, rows_noted}
-use Rattle.fronts.specs.Bands.{from_ends}
-use Rattle.fronts.specs.Fronts.{Holds, Raises, ever, spot}
-use Rattle.fronts.specs.Noted.{band_noted, run_noted}
+use Rattle.fronts.specs.Fronts.{Holds, Raises, spot}
+use Rattle.fronts.specs.Noted.{run_noted}
 use Rattle.fronts.specs.Stretches.{AreSamePlaces, count_of, kept}
 use Rattle.fronts.specs.declared.stretches.Stretch.{Stretch}
-use Rattle.fronts.proofs.Lining.{IsOutOfBand, band-in, band-out, in-or-out, is-now, value-of, run-before, run-in, where-is}
+use Rattle.fronts.proofs.Lining.{is-now, run-before, run-in, value-of, where-is}
 use Rattle.strands.specs.Marks.{Marks, is_between, is_only, marked, or_marked}
 use Rattle.strands.specs.Sections.{IsLine, IsNumberedLine}
 
@@ -74,9 +73,9 @@ rows-at law stretch t k places line low high =
     ap (λ j. Some (noting_at (row law t) (place_at law.mesh j))) e
     ∙ ap (λ at. Some (noting_at (row law t) at)) (places law.mesh (OnPipe p i) line.numbered (line.on_mesh.pipe, omega arith))
 
--- ---- the band
+-- ---- what is noted
 
--- a band has what the rows have between the fronts, and nothing else
+-- what is noted is what the rows have at the marks, and nothing else
 abbrev pub IsSplit : Meaning → Noted → Marks → ℕ → ℕ → Type 0
 IsSplit law band marks s k =
     ((marks s k ≡ true) × (band s k ≡ rows_noted law s k)) ⊎ ((marks s k ≡ false) × (band s k ≡ None))
@@ -93,52 +92,6 @@ other s step front later h e f = elim (below s (step + 1)) [
     below : (x y : ℕ) → (x < y) ⊎ ((x ≡ y) ⊎ (y < x))
     below x y = grind arith
 
-out : (law : Meaning) (stretch : Stretch) (step low high : ℕ) (front later : ℕ → ℕ) (s k : ℕ)
-    → Raises step (from_ends (count_of stretch - 1)) low high (count_of stretch) ever front later
-    → (k < stretch.number) ⊎ ((stretch.number + count_of stretch ≤ k) ⊎ ((stretch.number ≤ k) × (k < stretch.number + count_of stretch)))
-    → IsOutOfBand stretch low high k → is_between stretch front later s k ≡ false
-out law stretch step low high front later s k ra (inl a) h = between-out stretch front later s k (inl a)
-out law stretch step low high front later s k ra (inr (inl a)) h = between-out stretch front later s k (inr (inl a))
-out law stretch step low high front later s k ra (inr (inr a)) (inl h) = between-out stretch front later s k (inl h)
-out law stretch step low high front later s k ra (inr (inr a)) (inr (inl h)) = between-out stretch front later s k (inr (inl h))
-out law stretch step low high front later s k ra (inr (inr a)) (inr (inr h)) =
-    let x = k - stretch.number in
-    let b : x < count_of stretch = (let l : stretch.number ≤ k = a.0 in let r : k < stretch.number + count_of stretch = a.1 in omega arith) in
-    between-out stretch front later s k (inr (inr (apart s (front x) (later x) (ra.others x b h))))
-
-pub split-band : (law : Meaning) (stretch : Stretch) (step low high : ℕ) (front later : ℕ → ℕ) (s k : ℕ)
-    → ArePlaces → IsLine law stretch
-    → Raises step (from_ends (count_of stretch - 1)) low high (count_of stretch) ever front later
-    → Holds law ever later stretch
-    → IsSplit law (band_noted stretch (step + 1) low high) (is_between stretch front later) s k
-split-band law stretch step low high front later s k places line ra h =
-    let x = k - stretch.number in
-    elim (in-or-out stretch low high k) [
-      | inr a ↦ inr (
-        out law stretch step low high front later s k ra (where-is k stretch.number (stretch.number + count_of stretch)) a,
-        band-out stretch (step + 1) low high s k (inr a),
-      )
-      | inl a ↦
-          let l : stretch.number ≤ k = a.0 in
-          let r : k < stretch.number + count_of stretch = a.1 in
-          let b : x < count_of stretch = omega arith in
-          let f : front x ≡ step = (ra.own x b a.2 a.3).1 in
-          let g : later x ≡ step + 1 = ra.raised x b a.2 a.3 in
-          elim (is-now s (step + 1)) [
-            | inl e ↦ inl (
-              between-in stretch front later s k l r (omega arith) (omega arith),
-              band-in stretch (step + 1) low high s k e a
-                  ∙ ap (λ y. Some (OfPoint y)) (h.cell (step + 1) x b (omega arith) (omega arith) (omega arith))
-                  ∙ sym (rows-at law stretch (step + 1) k places (numbered-line law stretch line) l r)
-                  ∙ ap (λ t. rows_noted law t k) (sym e),
-            )
-            | inr e ↦ inr (
-              between-out stretch front later s k (inr (inr (other s step (front x) (later x) e f g))),
-              band-out stretch (step + 1) low high s k (inl e),
-            )
-          ]
-    ]
-
 -- the same of a stretch of the same places
 pub same-line : (law : Meaning) (old new : Stretch) → AreSamePlaces old new → IsLine law old → IsLine law new
 unfolding count_of
@@ -153,19 +106,6 @@ same-line law old new h line = record {
   long = rw (h.count_is) line.long;
   few = rw (h.number_is, h.count_is) line.few;
 }
-
-pub same-split : (law : Meaning) (old new : Stretch) (step low high : ℕ) (front later : ℕ → ℕ)
-    → ArePlaces → IsLine law old → AreSamePlaces old new
-    → Raises step (from_ends (count_of old - 1)) low high (count_of old) ever front later
-    → Holds law ever later new → (s k : ℕ)
-    → IsSplit law (band_noted new (step + 1) low high) (is_between old front later) s k
-same-split law old new step low high front later places line same ra h s k =
-    let ra' = subst (λ n. Raises step (from_ends (n - 1)) low high n ever front later) (sym same.count_is) ra in
-    let e = sym (same-between old new front later s k same) in
-    elim (split-band law new step low high front later s k places (same-line law old new same line) ra' h) [
-      | inl a ↦ inl (e ∙ a.0, a.1)
-      | inr a ↦ inr (e ∙ a.0, a.1)
-    ]
 
 -- ---- maps with what is between
 

@@ -5,20 +5,17 @@ use Rattle.std.specs.Prelude.{◌≢◌}
 use Rattle.std.proofs.Math.Bool.{and-false}
 use Rattle.std.proofs.lemmas.Bool.{eq-eqb, le-leb, le-ltb, lt-leb, lt-ltb, ne_eqb}
 use Rattle.case_model.specs.declared.points.Point.{Point}
-use Rattle.case_model.specs.Meaning.{IsMeaning, Meaning}
-use Rattle.case_model.specs.Range.{IsPoint}
-use Rattle.case_model.specs.Words.{words_of}
-use Rattle.case_model.proofs.RowLaws.{row-good}
+use Rattle.case_model.specs.Meaning.{Meaning}
+use Rattle.case_model.specs.Runs.{point_at}
 use Rattle.fronts.specs.Bands.{from_place}
 use Rattle.fronts.specs.Fronts.{Holds, Puts, fan, fan_since, spot}
 use Rattle.fronts.specs.Stretches.{AreSamePlaces, count_of, kept}
 use Rattle.fronts.specs.declared.stretches.Stretch.{Stretch}
 use Rattle.fronts.proofs.Raising.{same-spot}
-use Rattle.strands.proofs.Handing.{before-or-at}
 use Rattle.strands.proofs.Loading.{with, with-here, with-there}
 use Rattle.strands.specs.Beside.{HasBeside, IsTriangle, beside, inner_side, is_beside, outer_side}
 use Rattle.strands.specs.Beside.{taken_front, taken_since}
-use Rattle.strands.specs.Words.{HasPoints, IsWritten, quad, station_step}
+use Rattle.strands.specs.Blocks.{HasPoints, station_step}
 
 below : (x y : ℕ) → (x < y) ⊎ (y ≤ x)
 below x y = grind arith
@@ -180,60 +177,58 @@ puts-one right at w s d count place since front is b =
           (front-there right at w s d count place x front a is.has is.place_is k, omega arith);
     }
 
--- ---- the points of the words
+-- ---- the points of the block
 
--- point number j of the words is that of the rows
+-- point number j of the block is that of the rows
 outer-point : (law : Meaning) (stretch : Stretch) (right : Bool) (at w s d j step place : ℕ)
-    (words : List ℕ) (point : Point)
-    → IsMeaning law → j < w → j / 2 + 1 ≡ d → place ≡ beside right at d → step ≡ s + (j + 1) / 2
-    → HasPoints w (outer_side law stretch right at s) words
-    → ((p : Point) → IsPoint p → quad words j ≡ words_of p → point ≡ p)
+    (points : List Point) (point : Point)
+    → j < w → j / 2 + 1 ≡ d → place ≡ beside right at d → step ≡ s + (j + 1) / 2
+    → HasPoints w (outer_side law stretch right at s) points
+    → point ≡ point_at points j
     → point ≡ spot law stretch step place
 unfolding outer_side
-outer-point law stretch right at w s d j step place words point m b half is e points tells =
-    tells (spot law stretch (s + (j + 1) / 2) (beside right at (j / 2 + 1)))
-    ((row-good law m (s + (j + 1) / 2)).points stretch.pipe
-    (stretch.first + beside right at (j / 2 + 1)))
-    (points.each j b)
+outer-point law stretch right at w s d j step place points point b half is e has read =
+    read ∙ has.each j b
     ∙ ap (λ z. spot law stretch (s + (j + 1) / 2) (beside right at z)) half
     ∙ ap (spot law stretch (s + (j + 1) / 2)) (sym is)
     ∙ ap (λ t. spot law stretch t place) (sym e)
 
 pub outer-first : (law : Meaning) (stretch : Stretch) (right : Bool) (at w s d count place : ℕ)
-    (words : List ℕ) (point : Point)
-    → IsMeaning law → IsNear right at w d count place
-    → HasPoints w (outer_side law stretch right at s) words
-    → ((p : Point) → IsPoint p → quad words (2 * d - 2) ≡ words_of p → point ≡ p)
+    (points : List Point) (point : Point)
+    → IsNear right at w d count place
+    → HasPoints w (outer_side law stretch right at s) points
+    → point ≡ point_at points (2 * d - 2)
     → point ≡ spot law stretch (s + (d - 1)) place
-outer-first law stretch right at w s d count place words point m is points tells =
+outer-first law stretch right at w s d count place points point is has read =
     let a : 1 ≤ d = is.some in
     let n : 2 * d ≤ w + 1 = is.near in
-    outer-point law stretch right at w s d (2 * d - 2) (s + (d - 1)) place words point m
+    outer-point law stretch right at w s d (2 * d - 2) (s + (d - 1)) place points point
     (omega arith) (omega arith)
-    is.place_is (omega arith) points tells
+    is.place_is (omega arith) has read
 
 pub outer-second : (law : Meaning) (stretch : Stretch) (right : Bool) (at w s d count place : ℕ)
-    (words : List ℕ) (point : Point)
-    → IsMeaning law → IsNear right at w d count place → 2 * d - 1 < w
-    → HasPoints w (outer_side law stretch right at s) words
-    → ((p : Point) → IsPoint p → quad words (2 * d - 1) ≡ words_of p → point ≡ p)
+    (points : List Point) (point : Point)
+    → IsNear right at w d count place → 2 * d - 1 < w
+    → HasPoints w (outer_side law stretch right at s) points
+    → point ≡ point_at points (2 * d - 1)
     → point ≡ spot law stretch (s + (d - 1) + 1) place
-outer-second law stretch right at w s d count place words point m is b points tells =
+outer-second law stretch right at w s d count place points point is b has read =
     let a : 1 ≤ d = is.some in
-    outer-point law stretch right at w s d (2 * d - 1) (s + (d - 1) + 1) place words point m b
+    outer-point law stretch right at w s d (2 * d - 1) (s + (d - 1) + 1) place points point b
     (omega arith)
-    is.place_is (omega arith) points tells
+    is.place_is (omega arith) has read
 
 -- the block of a stretch of the same places
-pub same-outer : (law : Meaning) (old new : Stretch) (right : Bool) (at w s : ℕ) (words : List ℕ)
+pub same-outer : (law : Meaning) (old new : Stretch) (right : Bool) (at w s : ℕ)
+    (points : List Point)
     → AreSamePlaces old new
-    → HasPoints w (outer_side law old right at s) words
-    → HasPoints w (outer_side law new right at s) words
+    → HasPoints w (outer_side law old right at s) points
+    → HasPoints w (outer_side law new right at s) points
 unfolding outer_side
-same-outer law old new right at w s words same h = record {
+same-outer law old new right at w s points same h = record {
   each =
-      λ j b. h.each j b ∙ ap words_of
-      (sym (same-spot law old new (s + (j + 1) / 2) (beside right at (j / 2 + 1)) same));
+      λ j b. h.each j b
+      ∙ sym (same-spot law old new (s + (j + 1) / 2) (beside right at (j / 2 + 1)) same);
 }
 
 -- ---- all distances
@@ -275,26 +270,16 @@ inner-more law stretch right at w s j since front a b is h =
     (nearer right at ((w - 1) / 2) (j / 2) (count_of stretch) a (omega arith)))
     (omega arith) (omega arith) (omega arith)
 
-pub inner-written : (law : Meaning) (stretch : Stretch) (right : Bool) (at w s j step place : ℕ)
-    (since front : ℕ → ℕ)
-    (point : Point) (old new : List ℕ)
+-- a point that is kept at this step and distance is the block's
+pub inner-is : (law : Meaning) (stretch : Stretch) (right : Bool) (at w s j step place d : ℕ)
+    (since front : ℕ → ℕ) (point : Point)
     → HasBeside right at ((w - 1) / 2) (count_of stretch) → j < w
     → IsTriangle right at w s since front → Holds law since front stretch
-    → step ≡ station_step w j → place ≡ beside right at (j / 2)
-    → point ≡ kept stretch (s + step) place
-    → HasPoints j (inner_side law stretch right at w s) old → IsWritten j point old new
-    → HasPoints (j + 1) (inner_side law stretch right at w s) new
+    → step ≡ s + station_step w j → d ≡ j / 2 → place ≡ beside right at d
+    → point ≡ kept stretch step place
+    → point ≡ inner_side law stretch right at w s j
 unfolding inner_side
-inner-written law stretch right at w s j step place since front point old new a b is h e f p
-    points put =
-    let here : point ≡ spot law stretch (s + station_step w j) (beside right at (j / 2)) =
-    p ∙ ap (λ t. kept stretch (s + t) place) e ∙ ap (kept stretch (s + station_step w j)) f
-    ∙ inner-more law stretch right at w s j since front a b is h in
-    record {
-      each = λ i l. elim (before-or-at i j l) [
-        | inl k ↦ put.beside i (λ z. omega arith) ∙ points.each i k
-        | inr k ↦ ap (quad new) k ∙ put.here ∙ ap words_of here
-            ∙ ap (λ z. words_of (spot law stretch (s + station_step w z) (beside right at (z / 2))))
-            (sym k)
-      ];
-    }
+inner-is law stretch right at w s j step place d since front point a b is h e g f p =
+    p ∙ ap (λ t. kept stretch t place) e
+    ∙ ap (kept stretch (s + station_step w j)) (f ∙ ap (beside right at) g)
+    ∙ inner-more law stretch right at w s j since front a b is h

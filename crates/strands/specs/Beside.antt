@@ -7,7 +7,7 @@ use Rattle.case_model.specs.Meaning.{Meaning}
 use Rattle.fronts.specs.Bands.{from_place}
 use Rattle.fronts.specs.Fronts.{fan, fan_since, spot}
 use Rattle.fronts.specs.declared.stretches.Stretch.{Stretch}
-use Rattle.strands.specs.Words.{station_step}
+use Rattle.strands.specs.Blocks.{station_step}
 
 -- the place at a distance to the right or to the left of place `at`
 abbrev pub beside : Bool → ℕ → ℕ → ℕ

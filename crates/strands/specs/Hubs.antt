@@ -6,6 +6,7 @@ use Rattle.case_model.specs.Mesh.{IsNumbered, end_index, end_node, ends_of, reac
 use Rattle.case_model.specs.Rows.{row}
 use Rattle.case_model.specs.declared.meshes.End.{End}
 use Rattle.case_model.specs.declared.meshes.Mesh.{Mesh}
+use Rattle.case_model.specs.declared.points.Point.{Point}
 use Rattle.envelope.specs.Cells.{is_within}
 use Rattle.envelope.specs.Folds.{IsSameFold, Stands, spans_of}
 use Rattle.envelope.specs.declared.folds.Fold.{Fold}
@@ -13,7 +14,7 @@ use Rattle.fronts.specs.Stretches.{count_of}
 use Rattle.strands.specs.Marks.{Marks, is_only, marked, or_marked}
 use Rattle.strands.specs.Spokes.{IsNewSpoke, IsSameSpoke, IsSpokeAfter, IsSpokeAt, NotesSpoke}
 use Rattle.strands.specs.Spokes.{ends_marks, spoke_inner, spoke_outer, spokes_marks}
-use Rattle.strands.specs.Words.{HasPoints}
+use Rattle.strands.specs.Blocks.{HasPoints}
 use Rattle.strands.specs.Stations.{half}
 use Rattle.strands.specs.declared.hubs.Hub.{Hub}
 use Rattle.strands.specs.declared.spokes.Spoke.{Spoke}
@@ -110,14 +111,14 @@ pub record IsSideLoaded (side : ℕ) (old new : Hub) : Type 0 where
   pub others : (i : ℕ) (d : Spoke) → i ≢ side
       → (slice_index_or new.spokes.items i d).loaded ≡ (slice_index_or old.spokes.items i d).loaded
 
--- the words have the block that side number `side` takes in, or the one that it hands on
-abbrev pub HasOuter : Meaning → ℕ → ℕ → ℕ → Hub → List ℕ → Type 0
-HasOuter law w s side hub words =
-    (d : Spoke) → HasPoints w (spoke_outer law w s (slice_index_or hub.spokes.items side d)) words
+-- the points are the block that side number `side` takes in, or the one that it hands on
+abbrev pub HasOuter : Meaning → ℕ → ℕ → ℕ → Hub → List Point → Type 0
+HasOuter law w s side hub points =
+    (d : Spoke) → HasPoints w (spoke_outer law w s (slice_index_or hub.spokes.items side d)) points
 
-abbrev pub HasInner : Meaning → ℕ → ℕ → ℕ → Hub → List ℕ → Type 0
-HasInner law w s side hub words =
-    (d : Spoke) → HasPoints w (spoke_inner law w s (slice_index_or hub.spokes.items side d)) words
+abbrev pub HasInner : Meaning → ℕ → ℕ → ℕ → Hub → List Point → Type 0
+HasInner law w s side hub points =
+    (d : Spoke) → HasPoints w (spoke_inner law w s (slice_index_or hub.spokes.items side d)) points
 
 -- the fold has the node, and each spoke's end and triangle
 pub record NotesHub (hub : Hub) (fold : Fold) : Type 0 where

@@ -1,4 +1,5 @@
 pub mod Beside
+pub mod Blocks
 pub mod Hubs
 pub mod Marks
 pub mod Seams
@@ -6,4 +7,3 @@ pub mod Sections
 pub mod Spokes
 pub mod Stations
 pub mod Tents
-pub mod Words

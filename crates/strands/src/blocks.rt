@@ -1,46 +1,52 @@
-//! What a section hands on to its stations: the points beside them, as words.
+//! The blocks of a section: what it hands on to its stations, and what it takes in from them.
 ghost use Rattle.std.specs.Prelude.{◌≡◌, ℕ, ◌+◌, ◌-◌, ◌*◌, ◌^◌, ◌<◌, ◌≤◌, length};
-ghost use Rattle.std.specs.Prelude.{Bool};
-ghost use Rattle.case_model.specs.Meaning.{IsMeaning, Meaning};
+ghost use Rattle.std.specs.Prelude.{All, Bool};
+ghost use Rattle.case_model.specs.Meaning.{Meaning};
 ghost use Rattle.case_model.specs.Range.{IsPoint};
-ghost use Rattle.case_model.specs.declared.points.Point.{Point as PointSeen};
-ghost use Rattle.case_model.specs.Words.{words_of};
 ghost use Rattle.fronts.specs.Fronts.{Holds, ever, tent};
 ghost use Rattle.fronts.specs.Stretches.{AreSamePlaces, count_of};
-ghost use Rattle.strands.specs.Words.{HasPoints, IsBare, IsWritten, from_end as end_place};
-ghost use Rattle.strands.specs.Words.{loading, quad, raised, section_side, station_side};
+ghost use Rattle.strands.specs.Blocks.{HasPoints, IsBare, from_end as end_place};
+ghost use Rattle.strands.specs.Blocks.{loading, raised, section_side, station_side};
 
-use case_model::{Point, from_words, to_words};
+use case_model::Point;
 use fronts::Stretch;
 
 /// Writes the block of a section for its left or its right side: the points beside the station at
-/// that side, over the window of so many steps after `start`, as words.
-pub fn write_side(stretch: &Stretch, left: bool, window: usize, start: u64, out: &mut [u64])
-    requires each { length out.old ≡ 4 * window }
+/// that side, over the window of so many steps after `start`.
+pub fn write_side(stretch: &Stretch, left: bool, window: usize, start: u64, out: &mut [Point])
+    requires each { length out.old ≡ window }
     requires long { window + 1 ≤ count_of stretch.now }
     requires room { start + window < 2 ^ 64 }
-    ensures { (law : Meaning) → Holds law ever (tent start (count_of stretch.now - 1)) stretch.now →
+    ensures points { (law : Meaning) →
+        Holds law ever (tent start (count_of stretch.now - 1)) stretch.now →
         HasPoints window (section_side law stretch.now left start) out.new }
+    ensures in_range { All IsPoint out.new }
+    ensures same { length out.new ≡ length out.old }
 {
     let last = stretch.count() - 1;
-    for j in 0..window {
-        let point = stretch.point(
-            start + (j as u64).div_ceil(2),
-            from_end(left, last, j / 2 + 1),
-        );
-        put_point(out, j, &point);
+    let pairs = window / 2;
+    for i in 0..pairs {
+        let place = from_end(left, last, i + 1);
+        let step = start + i as u64;
+        out[2 * i] = stretch.point(step, place);
+        out[2 * i + 1] = stretch.point(step + 1, place);
+    }
+    if 2 * pairs < window {
+        let place = from_end(left, last, pairs + 1);
+        out[2 * pairs] = stretch.point(start + pairs as u64, place);
     }
 }
 
 /// Takes the block of a station in at the left or the right side of a section: the points of the
 /// station and of its triangle, over the window of so many steps after `start`.
-pub fn load_side(stretch: &mut Stretch, left: bool, window: usize, start: u64, words: &[u64])
-    requires each { length words.now ≡ 4 * window }
+pub fn load_side(stretch: &mut Stretch, left: bool, window: usize, start: u64, points: &[Point])
+    requires each { length points.now ≡ window }
+    requires in_range { All IsPoint points.now }
     requires long { window + 1 ≤ count_of stretch.old }
     requires room { start + window < 2 ^ 64 }
     ensures same { AreSamePlaces stretch.old stretch.new }
-    ensures holds { (law : Meaning) (front : ℕ → ℕ) → IsMeaning law →
-        HasPoints window (station_side law stretch.old left window start) words.now →
+    ensures holds { (law : Meaning) (front : ℕ → ℕ) →
+        HasPoints window (station_side law stretch.old left window start) points.now →
         IsBare left (count_of stretch.old - 1) window start front →
         Holds law ever front stretch.old →
         Holds law ever (raised left (count_of stretch.old - 1) window start front) stretch.new }
@@ -52,7 +58,7 @@ pub fn load_side(stretch: &mut Stretch, left: bool, window: usize, start: u64, w
             from_end(left, last, distance),
             window,
             start,
-            words,
+            points,
             distance,
         );
     }
@@ -64,27 +70,28 @@ fn load_place(
     place: usize,
     window: usize,
     start: u64,
-    words: &[u64],
+    points: &[Point],
     distance: usize,
 )
-    requires each { length words.now ≡ 4 * window }
+    requires each { length points.now ≡ window }
+    requires in_range { All IsPoint points.now }
     requires near { 2 * distance < window }
     requires inside { place < count_of stretch.old }
     requires room { start + window < 2 ^ 64 }
     ensures same { AreSamePlaces stretch.old stretch.new }
-    ensures holds { (law : Meaning) (left : Bool) (n : ℕ) (front : ℕ → ℕ) → IsMeaning law →
+    ensures holds { (law : Meaning) (left : Bool) (n : ℕ) (front : ℕ → ℕ) →
         count_of stretch.old ≡ n + 1 → window ≤ n → place ≡ end_place left n distance →
-        HasPoints window (station_side law stretch.old left window start) words.now →
+        HasPoints window (station_side law stretch.old left window start) points.now →
         IsBare left n window start front →
         Holds law ever (loading left n window start distance front) stretch.old →
         Holds law ever (loading left n window start (distance + 1) front) stretch.new }
 {
     let step = start + (window - distance) as u64;
     if 2 * distance + 1 < window {
-        stretch.put(step - 1, place, point_in(words, 2 * distance));
-        stretch.put(step, place, point_in(words, 2 * distance + 1));
+        stretch.put(step - 1, place, points[2 * distance]);
+        stretch.put(step, place, points[2 * distance + 1]);
     } else {
-        stretch.put(step, place, point_in(words, 2 * distance));
+        stretch.put(step, place, points[2 * distance]);
     }
 }
 
@@ -94,32 +101,4 @@ fn from_end(left: bool, reaches: usize, distance: usize) -> usize
     ensures { result ≡ end_place left reaches distance }
 {
     if left { distance } else { reaches - distance }
-}
-
-// Writes the words of a point.
-pub(crate) fn put_point(words: &mut [u64], index: usize, point: &Point)
-    requires inside { 4 * index + 4 ≤ length words.old }
-    requires in_range { IsPoint point.now }
-    ensures { IsWritten index point.now words.old words.new }
-{
-    let four = to_words(point);
-    words[4 * index] = four[0];
-    words[4 * index + 1] = four[1];
-    words[4 * index + 2] = four[2];
-    words[4 * index + 3] = four[3];
-}
-
-// The point of these words; Bad where no point has them.
-pub(crate) fn point_in(words: &[u64], index: usize) -> Point
-    requires inside { 4 * index + 4 ≤ length words.now }
-    ensures point { (point : PointSeen) → IsPoint point → quad words.now index ≡ words_of point →
-        result ≡ point }
-    ensures in_range { IsPoint result }
-{
-    let i = 4 * index;
-    let four = [words[i], words[i + 1], words[i + 2], words[i + 3]];
-    match from_words(&four) {
-        Some(point) => point,
-        None => Point::Bad,
-    }
 }

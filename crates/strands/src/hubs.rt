@@ -1,7 +1,7 @@
 //! The strand of a node: its state, and a spoke for each pipe end at it.
 ghost use Rattle.std.specs.Prelude.{◌≡◌, ℕ, ◌+◌, ◌*◌, ◌^◌, ◌<◌, ◌≤◌, length, IfOk};
 ghost use Rattle.std.specs.Prelude.{All, false, slice_index_or, true};
-ghost use Rattle.case_model.specs.Meaning.{IsMeaning, Meaning};
+ghost use Rattle.case_model.specs.Meaning.{Meaning};
 ghost use Rattle.case_model.specs.Mesh.{IsNumbered, ends_of};
 ghost use Rattle.case_model.specs.Range.{IsPoint};
 ghost use Rattle.case_model.specs.Rows.{node_ends, row};
@@ -75,17 +75,18 @@ impl Hub {
 
     /// Takes the block of the section at one side in, over the window of so many steps after
     /// `start`. Where it is loaded already, nothing changes.
-    pub fn load(&mut self, side: usize, window: usize, start: u64, words: &[u64])
+    pub fn load(&mut self, side: usize, window: usize, start: u64, points: &[Point])
         requires there { side < length (spokes_of self.old) }
-        requires each { length words.now ≡ 4 * window }
+        requires each { length points.now ≡ window }
+        requires in_range { All IsPoint points.now }
         requires size { IsForWindow window self.old }
         requires room { start + window < 2 ^ 64 }
         ensures loaded { IsSideLoaded side self.old self.new }
-        ensures at { (law : Meaning) → IsMeaning law → IsHubAt law window start self.old →
-            HasOuter law window start side self.old words.now →
+        ensures at { (law : Meaning) → IsHubAt law window start self.old →
+            HasOuter law window start side self.old points.now →
             IsHubAt law window start self.new }
     {
-        self.spokes[side].load(window, start, words);
+        self.spokes[side].load(window, start, points);
     }
 
     /// Computes the window of so many steps after `start`, of which the blocks of all sides are
@@ -101,44 +102,57 @@ impl Hub {
         ensures bare { IsLoaded false self.new }
         ensures next { IsHubAt (L.meaning law.now) window (start + window) self.new }
     {
+        let count = self.spokes.len();
+        let mut near_room = [Point::Bad; MOST_ENDS];
+        let mut end_room = [Point::Bad; MOST_ENDS];
+        let near = &mut near_room[..count];
+        let ends = &mut end_room[..count];
         for done in 0..window {
             let at = WindowStep {
                 window,
                 start,
                 done,
             };
-            self.step(law, fold, at);
+            self.step(law, fold, at, near, ends);
         }
     }
 
     /// Writes the block of one side for the section there, over the window of so many steps after
     /// `start`, which was computed.
-    pub fn write(&self, side: usize, window: usize, start: u64, out: &mut [u64])
+    pub fn write(&self, side: usize, window: usize, start: u64, out: &mut [Point])
         requires there { side < length (spokes_of self.now) }
-        requires each { length out.old ≡ 4 * window }
+        requires each { length out.old ≡ window }
         requires size { IsForWindow window self.now }
         requires room { start + window < 2 ^ 64 }
-        ensures { (law : Meaning) → IsHubAfter law window start window self.now →
+        ensures points { (law : Meaning) → IsHubAfter law window start window self.now →
             HasInner law window start side self.now out.new }
+        ensures in_range { All IsPoint out.new }
+        ensures same { length out.new ≡ length out.old }
     {
         self.spokes[side].write(window, start, out);
     }
 
-    // One step of a window.
-    fn step<L: Law>(&mut self, law: &L, fold: &mut Fold, at: WindowStep)
+    // One step of a window. `near` and `ends` are written over.
+    fn step<L: Law>(
+        &mut self,
+        law: &L,
+        fold: &mut Fold,
+        at: WindowStep,
+        near: &mut [Point],
+        ends: &mut [Point],
+    )
         requires inside { at.done < at.window }
         requires room { at.start + at.window < 2 ^ 64 }
         requires computed { IsHubAfter (L.meaning law.now) at.window at.start at.done self.old }
         requires noted { NotesHub self.old fold.old }
+        requires near { length near.old ≡ length self.old.spokes.items }
+        requires ends { length ends.old ≡ length self.old.spokes.items }
+        ensures near { length near.new ≡ length self.new.spokes.items }
+        ensures ends { length ends.new ≡ length self.new.spokes.items }
         ensures bare { IsLoaded false self.new }
         ensures stepped { IsHubStepped (L.meaning law.now) at.window at.start at.done
             (at.done + 1) self.old self.new fold.old fold.new }
     {
-        let mut near_room = [Point::Bad; MOST_ENDS];
-        let mut end_room = [Point::Bad; MOST_ENDS];
-        let count = self.spokes.len();
-        let near = &mut near_room[..count];
-        let ends = &mut end_room[..count];
         self.state = self.ask(law, at, near, ends);
         step_spokes(law, fold, at, ends, &mut self.spokes);
         self.note_state(fold, at.start + at.done as u64 + 1);
@@ -163,6 +177,7 @@ impl Hub {
         ensures ends { ends.new
             ≡ node_ends (L.meaning law.now) (at.start + at.done + 1)
             (row (L.meaning law.now) (at.start + at.done)) self.now.node }
+        ensures near { length near.new ≡ length self.now.spokes.items }
         ensures each { length ends.new ≡ length self.now.spokes.items }
         ensures in_range { All IsPoint ends.new }
     {

@@ -3,7 +3,7 @@ ghost use Rattle.std.specs.Prelude.{◌≡◌};
 
 use crate::besides::{load_beside, write_beside};
 use crate::stations::advance_seam;
-use case_model::Law;
+use case_model::{Law, Point};
 use envelope::{Fold, numbers_tell_places, stands_for_equal_maps};
 use fronts::Stretch;
 use std::alloc::{AllocError, Global};
@@ -19,9 +19,10 @@ pub struct Seam {
 
 impl Seam {
     ghost use Rattle.std.specs.Prelude.{ℕ, ◌+◌, ◌-◌, ◌*◌, ◌/◌, ◌^◌, ◌<◌, ◌≤◌, length, IfOk};
-    ghost use Rattle.std.specs.Prelude.{true, false};
-    ghost use Rattle.case_model.specs.Meaning.{IsMeaning, Meaning};
+    ghost use Rattle.std.specs.Prelude.{All, true, false};
+    ghost use Rattle.case_model.specs.Meaning.{Meaning};
     ghost use Rattle.case_model.specs.Mesh.{IsNumbered, base_of, reaches};
+    ghost use Rattle.case_model.specs.Range.{IsPoint};
     ghost use Rattle.envelope.specs.Cells.{AreInOneSpan};
     ghost use Rattle.envelope.specs.Folds.{IsSameFold, Stands, spans_of};
     ghost use Rattle.fronts.specs.Stretches.{AreSamePlaces, count_of};
@@ -30,7 +31,7 @@ impl Seam {
     ghost use Rattle.strands.specs.Seams.{IsLoaded, IsSeamAt, IsSeamDone, IsSeamOf};
     ghost use Rattle.strands.specs.Seams.{has_block, number_of_seam, stretch_of};
     ghost use Rattle.strands.specs.Stations.{NotesTriangles, half, seam_front};
-    ghost use Rattle.strands.specs.Words.{HasPoints};
+    ghost use Rattle.strands.specs.Blocks.{HasPoints};
 
     /// The seam in a place of a pipe, with this place number, at step 0. The error is want of
     /// memory.
@@ -82,23 +83,24 @@ impl Seam {
 
     /// Takes the block of the section at one side in, for the window of so many steps after
     /// `start`. Where it is loaded already this changes nothing.
-    pub fn load(&mut self, right: bool, window: usize, start: u64, words: &[u64])
-        requires each { length words.now ≡ 4 * window }
+    pub fn load(&mut self, right: bool, window: usize, start: u64, points: &[Point])
+        requires each { length points.now ≡ window }
+        requires in_range { All IsPoint points.now }
         requires size { count_of (stretch_of self.old) ≡ 2 * half window + 1 }
         requires room { start + window < 2 ^ 64 }
         ensures loaded { IsLoaded right self.old self.new }
-        ensures holds { (law : Meaning) → IsMeaning law → IsSeamAt law window start self.old →
+        ensures holds { (law : Meaning) → IsSeamAt law window start self.old →
             HasPoints window (outer_side law (stretch_of self.old) right (half window) start)
-            words.now → IsSeamAt law window start self.new }
+            points.now → IsSeamAt law window start self.new }
     {
         let at = window.div_ceil(2);
         if right {
             if !self.right {
-                load_beside(&mut self.stretch, true, at, window, start, words);
+                load_beside(&mut self.stretch, true, at, window, start, points);
                 self.right = true;
             }
         } else if !self.left {
-            load_beside(&mut self.stretch, false, at, window, start, words);
+            load_beside(&mut self.stretch, false, at, window, start, points);
             self.left = true;
         }
     }
@@ -126,14 +128,16 @@ impl Seam {
     }
 
     /// Writes the seam's block for one side, of the window that was computed last.
-    pub fn write(&self, right: bool, window: usize, start: u64, out: &mut [u64])
-        requires each { length out.old ≡ 4 * window }
+    pub fn write(&self, right: bool, window: usize, start: u64, out: &mut [Point])
+        requires each { length out.old ≡ window }
         requires some { 1 ≤ window }
         requires size { count_of (stretch_of self.now) ≡ 2 * half window + 1 }
         requires room { start + window < 2 ^ 64 }
-        ensures { (law : Meaning) → IsSeamDone law window start self.now →
+        ensures points { (law : Meaning) → IsSeamDone law window start self.now →
             HasPoints window (inner_side law (stretch_of self.now) right (half window) window start)
             out.new }
+        ensures in_range { All IsPoint out.new }
+        ensures same { length out.new ≡ length out.old }
     {
         write_beside(&self.stretch, right, window.div_ceil(2), window, start, out);
     }

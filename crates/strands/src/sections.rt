@@ -6,8 +6,9 @@ ghost use Rattle.fronts.specs.Fronts.{Holds, Raises, ever, loaded, risen, tent};
 ghost use Rattle.fronts.specs.Stretches.{count_of};
 ghost use Rattle.strands.specs.Sections.{IsAdvanced, IsLine, NotesInside};
 
+use crate::stations::advance_run;
 use case_model::Law;
-use envelope::{Fold, numbers_tell_places, stands_for_equal_maps};
+use envelope::{Fold, stands_for_equal_maps};
 use fronts::Stretch;
 
 /// Raises the places of a section whose distance from the nearer station is at least `low` and
@@ -30,10 +31,16 @@ pub fn advance<L: Law>(
         Holds (L.meaning law.now) ever front stretch.old →
         IsAdvanced (L.meaning law.now) ever front later stretch.old stretch.new fold.old fold.new }
 {
-    numbers_tell_places();
-    stands_for_equal_maps();
-    stretch.step_band(law, step, low, high);
-    stretch.note_band(fold, step + 1, low, high);
+    let count = stretch.count();
+    let half = (count - 1) / 2;
+    if low < high && low <= half {
+        let end = count - low;
+        let gap = if half < high { end } else { high };
+        advance_run(law, stretch, fold, step, low, gap);
+        if gap < end {
+            advance_run(law, stretch, fold, step, count - high, end);
+        }
+    }
 }
 
 /// Region 0 of a section: from the initial row to the tent over its two stations.

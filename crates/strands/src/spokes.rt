@@ -1,7 +1,7 @@
 //! A spoke of a node: the places of one pipe from its end at the node inward.
 ghost use Rattle.std.specs.Prelude.{◌≡◌, ℕ, ◌+◌, ◌-◌, ◌*◌, ◌^◌, ◌<◌, ◌≤◌, length, IfOk};
-ghost use Rattle.std.specs.Prelude.{true, false};
-ghost use Rattle.case_model.specs.Meaning.{IsMeaning, Meaning};
+ghost use Rattle.std.specs.Prelude.{All, true, false};
+ghost use Rattle.case_model.specs.Meaning.{Meaning};
 ghost use Rattle.case_model.specs.Mesh.{IsNumbered, reaches};
 ghost use Rattle.case_model.specs.Range.{IsPoint};
 ghost use Rattle.envelope.specs.Folds.{IsSameFold, Stands};
@@ -13,7 +13,7 @@ ghost use Rattle.strands.specs.Spokes.{IsBeside, IsSpokeStepped, run_low, spoke_
 ghost use Rattle.strands.specs.Marks.{Marks, is_only, marked, or_marked};
 ghost use Rattle.strands.specs.Sections.{IsAdvanced, IsNumberedLine};
 ghost use Rattle.strands.specs.Stations.{half};
-ghost use Rattle.strands.specs.Words.{HasPoints};
+ghost use Rattle.strands.specs.Blocks.{HasPoints};
 
 use crate::besides::{load_beside, write_beside};
 use case_model::{End, Law, Mesh, Point};
@@ -82,33 +82,36 @@ impl Spoke {
 
     /// Takes the block of the section in, over the window of so many steps after `start`. Where it
     /// is loaded already, nothing changes.
-    pub(crate) fn load(&mut self, window: usize, start: u64, words: &[u64])
-        requires each { length words.now ≡ 4 * window }
+    pub(crate) fn load(&mut self, window: usize, start: u64, points: &[Point])
+        requires each { length points.now ≡ window }
+        requires in_range { All IsPoint points.now }
         requires some { 1 ≤ window }
         requires size { count_of self.old.stretch ≡ half window + 1 }
         requires room { start + window < 2 ^ 64 }
         ensures same { IsSameSpoke self.old self.new }
         ensures loaded { self.new.loaded ≡ true }
-        ensures at { (law : Meaning) → IsMeaning law → IsSpokeAt law window start self.old →
-            HasPoints window (spoke_outer law window start self.old) words.now →
+        ensures at { (law : Meaning) → IsSpokeAt law window start self.old →
+            HasPoints window (spoke_outer law window start self.old) points.now →
             IsSpokeAt law window start self.new }
     {
         if !self.loaded {
             let at = self.end();
-            load_beside(&mut self.stretch, !self.last, at, window, start, words);
+            load_beside(&mut self.stretch, !self.last, at, window, start, points);
             self.loaded = true;
         }
     }
 
     /// Writes the block of the node for the section on this pipe, over the window of so many steps
     /// after `start`.
-    pub(crate) fn write(&self, window: usize, start: u64, out: &mut [u64])
-        requires each { length out.old ≡ 4 * window }
+    pub(crate) fn write(&self, window: usize, start: u64, out: &mut [Point])
+        requires each { length out.old ≡ window }
         requires some { 1 ≤ window }
         requires size { count_of self.now.stretch ≡ half window + 1 }
         requires room { start + window < 2 ^ 64 }
-        ensures { (law : Meaning) → IsSpokeAfter law window start window self.now →
+        ensures points { (law : Meaning) → IsSpokeAfter law window start window self.now →
             HasPoints window (spoke_inner law window start self.now) out.new }
+        ensures in_range { All IsPoint out.new }
+        ensures same { length out.new ≡ length out.old }
     {
         write_beside(&self.stretch, !self.last, self.end(), window, start, out);
     }

@@ -2,9 +2,9 @@
 ghost use Rattle.std.specs.Prelude.{◌≡◌, ℕ, ◌+◌, ◌-◌, ◌*◌, ◌/◌, ◌^◌, ◌<◌, ◌≤◌};
 ghost use Rattle.case_model.specs.Meaning.{Meaning};
 ghost use Rattle.envelope.specs.Cells.{AreInOneSpan};
-ghost use Rattle.envelope.specs.Folds.{spans_of};
+ghost use Rattle.envelope.specs.Folds.{IsSameFold, spans_of};
 ghost use Rattle.fronts.specs.Fronts.{Holds, Raises};
-ghost use Rattle.fronts.specs.Stretches.{count_of};
+ghost use Rattle.fronts.specs.Stretches.{AreSamePlaces, count_of};
 ghost use Rattle.strands.specs.Sections.{IsAdvanced, IsLine};
 ghost use Rattle.strands.specs.Stations.{NotesTriangles, seam_since, seam_front};
 
@@ -28,7 +28,9 @@ pub fn advance_run<L: Law>(
     requires after_first { 0 < low }
     requires order { low ≤ high }
     requires before_last { high < count_of stretch.old }
-    ensures { (since front later : ℕ → ℕ) →
+    ensures same { AreSamePlaces stretch.old stretch.new }
+    ensures same_fold { IsSameFold fold.old fold.new }
+    ensures advanced { (since front later : ℕ → ℕ) →
         Raises step (λ x. x) low high (count_of stretch.old) since front later →
         Holds (L.meaning law.now) since front stretch.old →
         IsAdvanced (L.meaning law.now) since front later stretch.old stretch.new fold.old fold.new }

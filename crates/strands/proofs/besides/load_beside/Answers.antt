@@ -29,10 +29,10 @@ loop-distance-preserved c =
         number_is = now.number_is ∙ inv.number_is;
         count_is = now.count_is ∙ inv.count_is;
       };
-      holds = λ law since front m points h.
+      holds = λ law since front points h.
           subst (λ i. Holds law (taken_since right at s i since) (taken_front right at w s i front)
           c.load_at.new.stretch) e
-          (c.load_at.ensures.holds law right at since front m has c.place_beside-place.ensures.place
-          (same-outer law old mid right at w s c.args.words.now inv points)
-          (c.loop-distance.invariant.holds law since front m points h));
+          (c.load_at.ensures.holds law right at since front has c.place_beside-place.ensures.place
+          (same-outer law old mid right at w s c.args.points.now inv points)
+          (c.loop-distance.invariant.holds law since front points h));
     }

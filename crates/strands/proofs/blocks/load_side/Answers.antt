@@ -1,13 +1,13 @@
 use Rattle.std.proofs.Common.{◌≡◌, ◌+◌, ◌-◌, ◌/◌, ◌≤◌, ◌<◌, ◌∙◌, ap, refl, subst, sym, arith}
 use Rattle.fronts.specs.Stretches.{count_of}
 use Rattle.strands.proofs.Loading.{end-inside, loading-all, loading-none, same-points}
-use Rattle.strands.specs.Words.{from_end}
+use Rattle.strands.specs.Blocks.{from_end}
 use Rattle.strands.proofs.blocks.load_side.Goals as goal
 
 pub loop-distance-init : goal.loop-distance-init
 loop-distance-init c = record {
   same = record { pipe_is = refl; first_is = refl; number_is = refl; count_is = refl };
-  holds = λ law front m points bare h.
+  holds = λ law front points bare h.
       loading-none law c.args.stretch.now c.args.left (count_of c.args.stretch.now - 1) c.args.window c.args.start front h;
 }
 
@@ -37,15 +37,15 @@ loop-distance-preserved c =
         number_is = now.number_is ∙ inv.number_is;
         count_is = now.count_is ∙ inv.count_is;
       };
-      holds = λ law front m points bare h.
-          c.load_place.ensures.holds law c.args.left n front m size (omega (arith, c.requires.long))
+      holds = λ law front points bare h.
+          c.load_place.ensures.holds law c.args.left n front size (omega (arith, c.requires.long))
           (c.from_end.ensures ∙ ap (λ z. from_end c.args.left z c.loop-distance.distance) last)
-          (same-points law old mid c.args.left c.args.window c.args.start c.args.words.now inv points) bare
-          (c.loop-distance.invariant.holds law front m points bare h);
+          (same-points law old mid c.args.left c.args.window c.args.start c.args.points.now inv points) bare
+          (c.loop-distance.invariant.holds law front points bare h);
     }
 
 pub returns-clause-holds : goal.returns-clause-holds
-returns-clause-holds c = λ law front m points bare h.
+returns-clause-holds c = λ law front points bare h.
     let old = c.args.stretch.now in
     let new = c.loop-distance.stretch in
     let n = count_of old - 1 in
@@ -53,4 +53,4 @@ returns-clause-holds c = λ law front m points bare h.
     let all : (c.args.window + 1) / 2 ≡ c.loop-distance.distance =
     omega (arith, c.loop-distance-test.false, c.loop-distance.auto.distance-end, c.div_ceil-distance-end.ensures) in
     loading-all law new c.args.left n c.args.window c.args.start c.loop-distance.distance front size all
-    (omega (arith, c.requires.long)) bare (c.loop-distance.invariant.holds law front m points bare h)
+    (omega (arith, c.requires.long)) bare (c.loop-distance.invariant.holds law front points bare h)

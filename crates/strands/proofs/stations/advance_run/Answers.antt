@@ -5,8 +5,8 @@ use Rattle.strands.specs.Marks.{is_between, marked, or_marked}
 use Rattle.strands.proofs.Marking.{agree-marked, numbered-line, same-split-run, union-marked}
 use Rattle.strands.proofs.stations.advance_run.Goals as goal
 
-pub returns : goal.returns
-returns g c = λ since front later ra h.
+pub returns-clause-advanced : goal.returns-clause-advanced
+returns-clause-advanced g c = λ since front later ra h.
     let law = g.L.Law.meaning c.args.law.now in
     let old = c.args.stretch.now in
     let new = c.step_run.new.self in

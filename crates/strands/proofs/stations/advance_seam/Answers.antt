@@ -38,7 +38,7 @@ loop-k-preserved g c =
     seam-more (g.L.Law.meaning c.args.law.now) w c.args.start c.loop-k.k most (c.div_ceil-half.result - most) (c.div_ceil-half.result + most + 1)
     c.args.stretch.now c.loop-k.stretch c.advance_run.new.stretch c.args.fold.now c.loop-k.fold c.advance_run.new.fold
     c.requires.size c.loop-k-test.true c.min-most.ensures (ap (λ z. z - most) h) (ap (λ z. z + most + 1) h)
-    c.loop-k.invariant c.advance_run.ensures
+    c.loop-k.invariant c.advance_run.ensures.advanced
 
 pub returns : goal.returns
 returns g c =

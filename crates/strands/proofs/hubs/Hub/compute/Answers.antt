@@ -1,4 +1,5 @@
-use Rattle.std.proofs.Common.{◌≡◌, ◌+◌, arith, subst}
+use Rattle.std.proofs.Common.{◌≡◌, ◌+◌, ◌≤◌, ◌∙◌, arith, length, subst}
+use Rattle.std.proofs.lemmas.List.{length-take-le}
 use Rattle.strands.proofs.Nodes.{hub-begins, hub-next, hub-stepped-more, hub-stepped-none}
 use Rattle.strands.proofs.Nodes.{notes-hub}
 use Rattle.strands.specs.Hubs.{IsHubAfter, IsHubStepped}
@@ -7,11 +8,16 @@ use Rattle.strands.proofs.hubs.Hub.compute.Goals as goal
 pub loop-done-init : goal.loop-done-init
 loop-done-init g c =
     let law = g.L.Law.meaning c.args.law.now in
+    let each : c.len-count.result ≡ length c.args.self.now.spokes.items =
+    omega (arith, c.len-count.ensures) in
+    let few : c.len-count.result ≤ 16 = omega (arith, c.requires.at.on_mesh.few) in
     record {
       stepped = hub-stepped-none law c.args.window c.args.start 0 c.args.self.now c.args.fold.now
           (hub-begins law c.args.window c.args.start c.args.self.now c.requires.loaded
           c.requires.at);
       bare = λ b. absurd (omega arith);
+      near = length-take-le c.len-count.result _ few ∙ each;
+      ends = length-take-le c.len-count.result _ few ∙ each;
     }
 
 pub step-requires-clause-noted : goal.step-requires-clause-noted
@@ -30,6 +36,8 @@ loop-done-preserved g c =
           c.args.fold.now c.loop-done.fold c.step.new.fold (omega arith) (omega arith)
           c.loop-done.invariant.stepped c.step.ensures.stepped;
       bare = λ b. c.step.ensures.bare;
+      near = c.step.ensures.near;
+      ends = c.step.ensures.ends;
     }
 
 pub returns-clause-done : goal.returns-clause-done

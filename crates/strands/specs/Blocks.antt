@@ -1,30 +1,17 @@
--- Points as words: what a strand hands on to one of its sides.
-use Rattle.std.specs.Prelude.{◌≡◌, ℕ, ◌+◌, ◌-◌, ◌*◌, ◌/◌, ◌<◌, ◌≢◌, Bool, true, false, List, []}
-use Rattle.std.specs.Prelude.{◌∷◌, length, slice_index_or}
-use Rattle.std.specs.Prelude.{◌%◌, ◌==◌, ◌≤◌, if◌then◌else◌, max, nat_lt}
+-- Blocks: the points that a strand hands on to one of its sides.
+use Rattle.std.specs.Prelude.{◌≡◌, ℕ, ◌+◌, ◌-◌, ◌*◌, ◌/◌, ◌<◌, ◌≤◌, ◌%◌, ◌==◌, Bool, true, false}
+use Rattle.std.specs.Prelude.{List, if◌then◌else◌, max, nat_lt}
 use Rattle.case_model.specs.declared.points.Point.{Point}
 use Rattle.case_model.specs.Meaning.{Meaning}
-use Rattle.case_model.specs.Words.{words_of}
+use Rattle.case_model.specs.Runs.{point_at}
 use Rattle.fronts.specs.Bands.{from_ends}
 use Rattle.fronts.specs.Fronts.{spot}
 use Rattle.fronts.specs.Stretches.{count_of}
 use Rattle.fronts.specs.declared.stretches.Stretch.{Stretch}
 
--- the four words of point number j
-abbrev pub quad : List ℕ → ℕ → List ℕ
-quad words j =
-    slice_index_or words (4 * j) 0 ∷ slice_index_or words (4 * j + 1) 0
-    ∷ slice_index_or words (4 * j + 2) 0 ∷ slice_index_or words (4 * j + 3) 0 ∷ []
-
--- so many points stand in these words
-pub record HasPoints (count : ℕ) (point : ℕ → Point) (words : List ℕ) : Type 0 where
-  pub each : (j : ℕ) → j < count → quad words j ≡ words_of (point j)
-
--- point number j is put into words, and nothing else changes
-pub record IsWritten (j : ℕ) (point : Point) (old new : List ℕ) : Type 0 where
-  pub same : length new ≡ length old
-  pub here : quad new j ≡ words_of point
-  pub beside : (i : ℕ) → i ≢ j → quad new i ≡ quad old i
+-- a list begins with so many points
+pub record HasPoints (count : ℕ) (point : ℕ → Point) (points : List Point) : Type 0 where
+  pub each : (j : ℕ) → j < count → point_at points j ≡ point j
 
 -- the place of a stretch of n reaches at a distance from its left or its right end
 abbrev pub from_end : Bool → ℕ → ℕ → ℕ
