@@ -6,6 +6,7 @@ use Rattle.std.specs.Prelude.{if◌then◌else◌, nat_le, nat_lt, slice_index_o
 use Rattle.std.proofs.lemmas.Bool.{and_parts, eqb-true, le-leb, leb-true, lt-ltb, ltb-true}
 use Rattle.std.proofs.lemmas.List.{get_or-map, length-map}
 use Rattle.case_model.specs.Joints.{no_end}
+use Rattle.case_model.specs.declared.points.Point.{Point}
 use Rattle.case_model.specs.Meaning.{Meaning}
 use Rattle.case_model.specs.Mesh.{base_of, ends_of, reaches}
 use Rattle.case_model.specs.declared.meshes.End.{End}
@@ -24,7 +25,7 @@ use Rattle.regionrun.proofs.Flags.{some-of}
 use Rattle.regionrun.proofs.Handing.{spoke-lawful, station-reads, station-writes}
 use Rattle.regionrun.proofs.Nodes.{AreOfNode, IsOverSpoke, node-stands, owned-node}
 use Rattle.regionrun.proofs.Spanned.{node-within}
-use Rattle.regionrun.specs.Handed.{HasStation, IsBlockFor}
+use Rattle.regionrun.specs.Handed.{HasStation, ArePointsFor}
 use Rattle.regionrun.specs.Lawful.{IsLawful}
 use Rattle.regionrun.specs.Owned.{owned}
 use Rattle.regionrun.specs.Places.{IsNodeOf}
@@ -148,26 +149,26 @@ hub-station layout mesh x side hub d lawful over here =
     (spoke-lawful layout mesh x side hub.node spoke.stretch.number spoke.last spoke.stretch lawful
     over.there over.shape (let e = over.ends.each in omega arith) (sym at.last_is) is)
 
-pub hub-incoming : (law : Meaning) (layout : Layout) (x m side : ℕ) (hub : Hub) (words : List ℕ)
+pub hub-incoming : (law : Meaning) (layout : Layout) (x m side : ℕ) (hub : Hub) (points : List Point)
     → IsLawful layout law.mesh → OverHub layout law.mesh x hub → side < length (spokes_of hub)
-    → IsBlockFor law layout (side_of layout law.mesh x side) (back_of layout law.mesh x side) m
-    words
-    → HasOuter law layout.window (m * layout.window) side hub words
-hub-incoming law layout x m side hub words lawful over here h = λ d.
+    → ArePointsFor law layout (side_of layout law.mesh x side) (back_of layout law.mesh x side) m
+    points
+    → HasOuter law layout.window (m * layout.window) side hub points
+hub-incoming law layout x m side hub points lawful over here h = λ d.
     let spoke = slice_index_or (spokes_of hub) side d in
     station-reads law layout x side m (not spoke.last) (end_place spoke.last (half layout.window))
-    spoke.stretch words (hub-station layout law.mesh x side hub d lawful over here) h
+    spoke.stretch points (hub-station layout law.mesh x side hub d lawful over here) h
 
-pub hub-outgoing : (law : Meaning) (layout : Layout) (x m side : ℕ) (hub : Hub) (words : List ℕ)
+pub hub-outgoing : (law : Meaning) (layout : Layout) (x m side : ℕ) (hub : Hub) (points : List Point)
     → IsLawful layout law.mesh → OverHub layout law.mesh x hub → side < length (spokes_of hub)
-    → length words ≡ 4 * layout.window
-    → HasInner law layout.window (m * layout.window) side hub words
-    → IsBlockFor law layout x side m words
-hub-outgoing law layout x m side hub words lawful over here size has =
+    → length points ≡ layout.window
+    → HasInner law layout.window (m * layout.window) side hub points
+    → ArePointsFor law layout x side m points
+hub-outgoing law layout x m side hub points lawful over here size has =
     let d = some-of side (spokes_of hub) here in
     let spoke = slice_index_or (spokes_of hub) side d in
     station-writes law layout x side m (not spoke.last) (end_place spoke.last (half layout.window))
-    spoke.stretch words (hub-station layout law.mesh x side hub d lawful over here) size (has d)
+    spoke.stretch points (hub-station layout law.mesh x side hub d lawful over here) size (has d)
 
 -- ---- what is noted
 

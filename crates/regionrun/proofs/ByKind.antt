@@ -2,6 +2,7 @@
 -- is computed to and hands on is what the layout says of that strand.
 use Rattle.std.proofs.Common.{◌≡◌, ℕ, zero, suc, ◌+◌, ◌-◌, ◌*◌, ◌<◌, ◌≤◌, ◌==◌, true, false, length}
 use Rattle.std.proofs.Common.{List, refl, ap, sym, subst, ◌∙◌, arith, Some}
+use Rattle.case_model.specs.declared.points.Point.{Point}
 use Rattle.case_model.specs.Meaning.{Meaning}
 use Rattle.case_model.specs.declared.meshes.Mesh.{Mesh}
 use Rattle.envelope.specs.Folds.{spans_of}
@@ -21,7 +22,7 @@ use Rattle.regionrun.proofs.Seams.{owned-seam}
 use Rattle.regionrun.specs.Bodies.{FitsWindow, HasIncoming, HasOutgoing, IsBodyAt, IsBodyOf}
 use Rattle.regionrun.specs.Bodies.{IsComputed, IsNoting, IsOpen, IsSameBody, IsSectionAfter}
 use Rattle.regionrun.specs.Bodies.{body_marks, is_section_body, side_count}
-use Rattle.regionrun.specs.Handed.{IsBlockFor}
+use Rattle.regionrun.specs.Handed.{ArePointsFor}
 use Rattle.regionrun.specs.Lawful.{IsLawful}
 use Rattle.regionrun.specs.Owned.{owned}
 use Rattle.regionrun.specs.Places.{IsNodeOf, IsSeamStretch, IsSectionStretch}
@@ -95,43 +96,43 @@ need-station m b e = cc
 
 -- the block that is handed to a strand has the points that its next region needs
 pub body-incoming : (law : Meaning) (layout : Layout) (x m b side : ℕ) (body : Body)
-    (words : List ℕ) → IsLawful layout law.mesh
+    (points : List Point) → IsLawful layout law.mesh
     → x < length layout.shapes → IsPlaced law.mesh layout.window (shape_at layout x) body
     → side < side_count body → needs_of (is_section_body body) m ≡ Some b
-    → IsBlockFor law layout (side_of layout law.mesh x side) (back_of layout law.mesh x side) b
-    words
-    → HasIncoming law layout.window m side body words
-body-incoming law layout x m b side (OfSection section) words lawful there places here need h =
-    section-reads law layout x side (m - 1) section.stretch words lawful.sides there
+    → ArePointsFor law layout (side_of layout law.mesh x side) (back_of layout law.mesh x side) b
+    points
+    → HasIncoming law layout.window m side body points
+body-incoming law layout x m b side (OfSection section) points lawful there places here need h =
+    section-reads law layout x side (m - 1) section.stretch points lawful.sides there
     (has-section layout law.mesh x section.stretch lawful there places) here
-    (subst (λ (z : ℕ). IsBlockFor law layout (side_of layout law.mesh x side)
-    (back_of layout law.mesh x side) z words) (need-section m b need) h)
-body-incoming law layout x m b side (OfSeam seam) words lawful there places here need h =
-    station-reads law layout x side m (side == 1) (half layout.window) seam.stretch words
+    (subst (λ (z : ℕ). ArePointsFor law layout (side_of layout law.mesh x side)
+    (back_of layout law.mesh x side) z points) (need-section m b need) h)
+body-incoming law layout x m b side (OfSeam seam) points lawful there places here need h =
+    station-reads law layout x side m (side == 1) (half layout.window) seam.stretch points
     (has-station layout law.mesh x side seam.stretch lawful there here places)
-    (subst (λ (z : ℕ). IsBlockFor law layout (side_of layout law.mesh x side)
-    (back_of layout law.mesh x side) z words) (need-station m b need) h)
-body-incoming law layout x m b side (OfNode hub) words lawful there places here need h =
-    hub-incoming law layout x m side hub words lawful
+    (subst (λ (z : ℕ). ArePointsFor law layout (side_of layout law.mesh x side)
+    (back_of layout law.mesh x side) z points) (need-station m b need) h)
+body-incoming law layout x m b side (OfNode hub) points lawful there places here need h =
+    hub-incoming law layout x m side hub points lawful
     (over-hub layout law.mesh x hub there places.0 places.1) here
-    (subst (λ (z : ℕ). IsBlockFor law layout (side_of layout law.mesh x side)
-    (back_of layout law.mesh x side) z words) (need-station m b need) h)
+    (subst (λ (z : ℕ). ArePointsFor law layout (side_of layout law.mesh x side)
+    (back_of layout law.mesh x side) z points) (need-station m b need) h)
 
 -- what a strand hands on is its block
 pub body-outgoing : (law : Meaning) (layout : Layout) (x m side : ℕ) (body : Body)
-    (words : List ℕ) → IsLawful layout law.mesh
+    (points : List Point) → IsLawful layout law.mesh
     → x < length layout.shapes → IsPlaced law.mesh layout.window (shape_at layout x) body
-    → side < side_count body → length words ≡ 4 * layout.window
-    → HasOutgoing law layout.window m side body words
-    → IsBlockFor law layout x side m words
-body-outgoing law layout x m side (OfSection section) words lawful there places here size h =
-    section-writes law layout x side m section.stretch words
+    → side < side_count body → length points ≡ layout.window
+    → HasOutgoing law layout.window m side body points
+    → ArePointsFor law layout x side m points
+body-outgoing law layout x m side (OfSection section) points lawful there places here size h =
+    section-writes law layout x side m section.stretch points
     (has-section layout law.mesh x section.stretch lawful there places) here size h
-body-outgoing law layout x m side (OfSeam seam) words lawful there places here size h =
-    station-writes law layout x side m (side == 1) (half layout.window) seam.stretch words
+body-outgoing law layout x m side (OfSeam seam) points lawful there places here size h =
+    station-writes law layout x side m (side == 1) (half layout.window) seam.stretch points
     (has-station layout law.mesh x side seam.stretch lawful there here places) size h
-body-outgoing law layout x m side (OfNode hub) words lawful there places here size h =
-    hub-outgoing law layout x m side hub words lawful
+body-outgoing law layout x m side (OfNode hub) points lawful there places here size h =
+    hub-outgoing law layout x m side hub points lawful
     (over-hub layout law.mesh x hub there places.0 places.1) here size h
 
 -- ---- regions

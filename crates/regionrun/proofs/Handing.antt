@@ -7,7 +7,6 @@ use Rattle.case_model.specs.declared.meshes.Mesh.{Mesh}
 use Rattle.case_model.specs.Meaning.{Meaning}
 use Rattle.case_model.specs.Mesh.{ends_of, reaches}
 use Rattle.case_model.specs.Rows.{row}
-use Rattle.case_model.specs.Words.{words_of}
 use Rattle.fronts.specs.Stretches.{AreSamePlaces, IsStretchOf, count_of}
 use Rattle.fronts.specs.declared.stretches.Stretch.{Stretch}
 use Rattle.regions.specs.declared.shapes.Layout.{Layout}
@@ -19,9 +18,9 @@ use Rattle.regions.specs.Sides.{shape_at, side_of, sides_in, sides_of}
 use Rattle.regions.specs.Touching.{IsStanding, IsTouching, station_pipe, station_place}
 use Rattle.strands.specs.Beside.{HasBeside, beside, inner_side, outer_side}
 use Rattle.strands.specs.Stations.{half}
-use Rattle.strands.specs.Words.{HasPoints, from_end, section_side, station_side, station_step}
+use Rattle.strands.specs.Blocks.{HasPoints, from_end, section_side, station_side, station_step}
 use Rattle.regionrun.specs.Lawful.{IsLawful}
-use Rattle.regionrun.specs.Handed.{HasSection, HasStation, IsBlockFor, block_point, point_on}
+use Rattle.regionrun.specs.Handed.{HasSection, HasStation, ArePointsFor, block_point, point_on}
 
 -- ---- points of blocks by the kind of their strand
 
@@ -322,64 +321,64 @@ spoke-lawful layout mesh x c k number last stretch lawful inside shape side end 
     (half-inside layout.window (reaches mesh (end_at mesh k c).pipe)
     (lawful.touching.ends k c there side).long) is
 
--- ---- the words of blocks
+-- ---- the points of blocks
 
--- words that have the same points
-pub same-words : (count : ℕ) (one other : ℕ → Point) (words : List ℕ)
+-- points that are those of two equal rows
+pub same-points : (count : ℕ) (one other : ℕ → Point) (points : List Point)
     → ((j : ℕ) → j < count → one j ≡ other j)
-    → HasPoints count one words → HasPoints count other words
-same-words count one other words e h = record { each = λ j b. h.each j b ∙ ap words_of (e j b) }
+    → HasPoints count one points → HasPoints count other points
+same-points count one other points e h = record { each = λ j b. h.each j b ∙ e j b }
 
 -- what strands write are their blocks, and of the blocks that they are given they read their
 -- neighbours' points
 pub section-writes : (law : Meaning) (layout : Layout) (y c b : ℕ) (stretch : Stretch)
-    (words : List ℕ)
-    → HasSection layout y stretch → c < 2 → length words ≡ 4 * layout.window
-    → HasPoints layout.window (section_side law stretch (c == 0) (b * layout.window)) words
-    → IsBlockFor law layout y c b words
-section-writes law layout y c b stretch words h side size points = record {
+    (points : List Point)
+    → HasSection layout y stretch → c < 2 → length points ≡ layout.window
+    → HasPoints layout.window (section_side law stretch (c == 0) (b * layout.window)) points
+    → ArePointsFor law layout y c b points
+section-writes law layout y c b stretch points h side size has = record {
   each = size;
-  points = same-words layout.window (section_side law stretch (c == 0) (b * layout.window))
-      (block_point law layout y c b) words
-      (λ j l. sym (section-hands law layout y c b j stretch h side l)) points;
+  has = same-points layout.window (section_side law stretch (c == 0) (b * layout.window))
+      (block_point law layout y c b) points
+      (λ j l. sym (section-hands law layout y c b j stretch h side l)) has;
 }
 
 pub section-reads : (law : Meaning) (layout : Layout) (x c b : ℕ) (stretch : Stretch)
-    (words : List ℕ)
+    (points : List Point)
     → AreMutual layout law.mesh → x < length layout.shapes → HasSection layout x stretch → c < 2
-    → IsBlockFor law layout (side_of layout law.mesh x c) (back_of layout law.mesh x c) b words
+    → ArePointsFor law layout (side_of layout law.mesh x c) (back_of layout law.mesh x c) b points
     → HasPoints layout.window (station_side law stretch (c == 0) layout.window (b * layout.window))
-    words
-section-reads law layout x c b stretch words both inside h side block =
-    same-words layout.window
+    points
+section-reads law layout x c b stretch points both inside h side block =
+    same-points layout.window
     (block_point law layout (side_of layout law.mesh x c) (back_of layout law.mesh x c) b)
-    (station_side law stretch (c == 0) layout.window (b * layout.window)) words
-    (λ j l. section-takes law layout x c b j stretch both inside h side l) block.points
+    (station_side law stretch (c == 0) layout.window (b * layout.window)) points
+    (λ j l. section-takes law layout x c b j stretch both inside h side l) block.has
 
 pub station-writes : (law : Meaning) (layout : Layout) (x c b : ℕ) (right : Bool) (at : ℕ)
-    (stretch : Stretch) (words : List ℕ)
-    → HasStation layout law.mesh x c right at stretch → length words ≡ 4 * layout.window
+    (stretch : Stretch) (points : List Point)
+    → HasStation layout law.mesh x c right at stretch → length points ≡ layout.window
     → HasPoints layout.window (inner_side law stretch right at layout.window (b * layout.window))
-    words
-    → IsBlockFor law layout x c b words
-station-writes law layout x c b right at stretch words h size points = record {
+    points
+    → ArePointsFor law layout x c b points
+station-writes law layout x c b right at stretch points h size has = record {
   each = size;
-  points = same-words layout.window
+  has = same-points layout.window
       (inner_side law stretch right at layout.window (b * layout.window))
-      (block_point law layout x c b) words
-      (λ j l. sym (station-hands law layout x c b j right at stretch h l)) points;
+      (block_point law layout x c b) points
+      (λ j l. sym (station-hands law layout x c b j right at stretch h l)) has;
 }
 
 pub station-reads : (law : Meaning) (layout : Layout) (x c b : ℕ) (right : Bool) (at : ℕ)
-    (stretch : Stretch) (words : List ℕ)
+    (stretch : Stretch) (points : List Point)
     → HasStation layout law.mesh x c right at stretch
-    → IsBlockFor law layout (side_of layout law.mesh x c) (back_of layout law.mesh x c) b words
-    → HasPoints layout.window (outer_side law stretch right at (b * layout.window)) words
-station-reads law layout x c b right at stretch words h block =
-    same-words layout.window
+    → ArePointsFor law layout (side_of layout law.mesh x c) (back_of layout law.mesh x c) b points
+    → HasPoints layout.window (outer_side law stretch right at (b * layout.window)) points
+station-reads law layout x c b right at stretch points h block =
+    same-points layout.window
     (block_point law layout (side_of layout law.mesh x c) (back_of layout law.mesh x c) b)
-    (outer_side law stretch right at (b * layout.window)) words
-    (λ j l. station-takes law layout x c b j right at stretch h l) block.points
+    (outer_side law stretch right at (b * layout.window)) points
+    (λ j l. station-takes law layout x c b j right at stretch h l) block.has
 
 -- ---- stretches of the same places
 

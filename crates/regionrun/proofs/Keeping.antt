@@ -4,6 +4,7 @@ use Rattle.std.proofs.Common.{◌≡◌, ℕ, zero, suc, ◌+◌, ◌*◌, ◌<�
 use Rattle.std.proofs.Common.{List}
 use Rattle.std.proofs.Common.{refl, ap, sym, subst, ◌∙◌, arith, Some, None}
 use Rattle.std.specs.Prelude.{if◌then◌else◌}
+use Rattle.case_model.specs.declared.points.Point.{Point}
 use Rattle.case_model.specs.Meaning.{Meaning}
 use Rattle.envelope.specs.Folds.{IsSameFold, Stands, spans_of, steps_of}
 use Rattle.envelope.specs.Cells.{is_within}
@@ -21,10 +22,11 @@ use Rattle.regionrun.proofs.ByKind.{same-kind}
 use Rattle.regionrun.specs.Bodies.{FitsWindow, HasIncoming, HasOutgoing, IsComputed, IsFedBody}
 use Rattle.regionrun.specs.Bodies.{IsNoting, IsOpen}
 use Rattle.regionrun.specs.Bodies.{IsSameBody, body_marks, is_section_body, side_count}
-use Rattle.regionrun.specs.Handed.{IsBlockFor}
+use Rattle.regionrun.specs.Handed.{ArePointsFor}
 use Rattle.regionrun.specs.Lawful.{IsLawful}
 use Rattle.regionrun.specs.Owned.{owned}
-use Rattle.regionrun.specs.Right.{IsReadySome, IsRight, IsRightAt, IsWanted, Keeps}
+use Rattle.regionrun.specs.Right.{IsReadySome, IsRight, IsRightAt, Keeps, IsGiven}
+use Rattle.regionrun.specs.Right.{IsWanted}
 use Rattle.regionrun.specs.Right.{has_loaded, region_count}
 use Rattle.regionrun.specs.declared.bodies.Body.{Body}
 use Rattle.regionrun.specs.declared.frontiers.Frontier.{Frontier}
@@ -55,12 +57,23 @@ right-fits law layout c frontier lawful right =
     (body-fits layout law.mesh frontier.number frontier.body lawful right.there
     (right-placed law layout c frontier right))
 
-pub wanted-side : (law : Meaning) (layout : Layout) (frontier : Frontier) (side : ℕ)
-    (words : List ℕ) → IsWanted law layout frontier side words → side < side_count frontier.body
-wanted-side law layout frontier side words wanted =
+pub given-side : (law : Meaning) (layout : Layout) (frontier : Frontier) (side : ℕ)
+    (points : List Point) → IsGiven law layout frontier side points → side < side_count frontier.body
+given-side law layout frontier side points given =
     subst (λ (n : ℕ). side < n)
-    (body-sides layout law.mesh frontier.number frontier.body wanted.right.there
-    (right-placed law layout frontier.computed frontier wanted.right)) wanted.side
+    (body-sides layout law.mesh frontier.number frontier.body given.right.there
+    (right-placed law layout frontier.computed frontier given.right)) given.side
+
+pub right-side : (law : Meaning) (layout : Layout) (frontier : Frontier) (side : ℕ)
+    (words : List ℕ) → IsWanted law layout frontier side words → side < frontier.sides
+right-side law layout frontier side words wanted =
+    subst (λ (n : ℕ). side < n) (sym wanted.right.sides_are) wanted.side
+
+pub right-words : (law : Meaning) (layout : Layout) (frontier : Frontier) (side : ℕ)
+    (words : List ℕ) → IsWanted law layout frontier side words
+    → length words ≡ 4 * frontier.window
+right-words law layout frontier side words wanted =
+    wanted.handed.each ∙ ap (λ (w : ℕ). 4 * w) (sym wanted.right.window_is)
 
 -- ---- a block is taken in
 
@@ -70,29 +83,29 @@ later-if-needed true zero b need e = cc
 later-if-needed true (suc m) b need e = omega arith
 
 pub taken : (law : Meaning) (layout : Layout) (old : Frontier) (new : Body) (side : ℕ)
-    (words : List ℕ) → IsLawful layout law.mesh
-    → IsWanted law layout old side words → IsSameBody old.body new
+    (points : List Point) → IsLawful layout law.mesh
+    → IsGiven law layout old side points → IsSameBody old.body new
     → (IsOpen law old.window old.computed old.body
-    → HasIncoming law old.window old.computed side old.body words
+    → HasIncoming law old.window old.computed side old.body points
     → IsOpen law old.window old.computed new)
     → Keeps law layout old.computed (shape_at layout old.number) new
-taken law layout old new side words lawful wanted same opens =
-    let right = wanted.right in
+taken law layout old new side points lawful given same opens =
+    let right = given.right in
     let x = old.number in
     let m = old.computed in
     let places = right-placed law layout m old right in
-    let need : needs_of (is_section_body old.body) m ≡ Some wanted.block =
-    subst (λ (k : Bool). needs_of k m ≡ Some wanted.block)
-    (body-kind layout law.mesh x old.body right.there places) wanted.needed in
+    let need : needs_of (is_section_body old.body) m ≡ Some given.block =
+    subst (λ (k : Bool). needs_of k m ≡ Some given.block)
+    (body-kind layout law.mesh x old.body right.there places) given.needed in
     let some : is_section_body old.body ≡ true → 1 ≤ m =
-    later-if-needed (is_section_body old.body) m wanted.block need in
+    later-if-needed (is_section_body old.body) m given.block need in
     let open_old : IsOpen law old.window m old.body =
     subst (λ (w : ℕ). IsOpen law w m old.body) (sym right.window_is)
     (body-open law layout.window m old.body some right.keeps.points) in
-    let has : HasIncoming law old.window m side old.body words =
-    subst (λ (w : ℕ). HasIncoming law w m side old.body words) (sym right.window_is)
-    (body-incoming law layout x m wanted.block side old.body words lawful right.there places
-    (wanted-side law layout old side words wanted) need wanted.handed) in
+    let has : HasIncoming law old.window m side old.body points =
+    subst (λ (w : ℕ). HasIncoming law w m side old.body points) (sym right.window_is)
+    (body-incoming law layout x m given.block side old.body points lawful right.there places
+    (given-side law layout old side points given) need given.handed) in
     record {
       places = same-body law.mesh layout.window (shape_at layout x) old.body new same
           right.keeps.places;
@@ -224,12 +237,12 @@ next-regions law layout old ready right =
 -- ---- what is handed on
 
 pub right-outgoing : (law : Meaning) (layout : Layout) (c m side : ℕ) (frontier : Frontier)
-    (words : List ℕ) → IsLawful layout law.mesh
+    (points : List Point) → IsLawful layout law.mesh
     → IsRightAt law layout c frontier → side < side_count frontier.body
-    → length words ≡ 4 * frontier.window
-    → HasOutgoing law frontier.window m side frontier.body words
-    → IsBlockFor law layout frontier.number side m words
-right-outgoing law layout c m side frontier words lawful right here size has =
-    body-outgoing law layout frontier.number m side frontier.body words lawful right.there
-    (right-placed law layout c frontier right) here (size ∙ ap (λ (w : ℕ). 4 * w) right.window_is)
-    (subst (λ (w : ℕ). HasOutgoing law w m side frontier.body words) right.window_is has)
+    → length points ≡ frontier.window
+    → HasOutgoing law frontier.window m side frontier.body points
+    → ArePointsFor law layout frontier.number side m points
+right-outgoing law layout c m side frontier points lawful right here size has =
+    body-outgoing law layout frontier.number m side frontier.body points lawful right.there
+    (right-placed law layout c frontier right) here (size ∙ right.window_is)
+    (subst (λ (w : ℕ). HasOutgoing law w m side frontier.body points) right.window_is has)

@@ -1,14 +1,16 @@
 mod AtNodes
 mod ByKind
+mod Cutting
 mod Flags
+mod Halving
 mod Handing
 mod Keeping
 mod Made
 mod OnPipes
 mod Parts
 mod Sizing
-mod Stepping
 mod Turning
+mod Wording
 pub mod Begun
 pub mod Beside
 pub mod Gathered

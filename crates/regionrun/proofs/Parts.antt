@@ -1,26 +1,25 @@
 -- The parts of a block, while one after another is written.
 use Rattle.std.proofs.Common.{◌≡◌, ℕ, ◌+◌, ◌-◌, ◌*◌, ◌<◌, ◌≤◌, inl, inr, ◌∙◌, ap, sym, subst}
 use Rattle.std.proofs.Common.{arith, List, ◌++◌, length, take, drop}
+use Rattle.std.specs.Prelude.{All}
 use Rattle.std.proofs.lemmas.List.{drop-append-le, length-drop, length-take-le, take-append-drop}
 use Rattle.std.proofs.lemmas.List.{take-append-le}
+use Rattle.std.proofs.lemmas.List.Elements.{All-append, All-drop, All-take}
 use Rattle.std.proofs.Math.Nat.{mul-le-mul_left}
 use Rattle.std.proofs.Math.Seq.{drop-append_seam, take-append_seam}
-use borrow.Rule.Slice.PartMut.{post_of, put_mid, same_len_mid}
-use Rattle.case_model.specs.Meaning.{Meaning}
-use Rattle.regions.specs.declared.shapes.Layout.{Layout}
-use Rattle.regions.specs.Sides.{sides_of}
+use borrow.Rule.Slice.PartMut.{post_of, put_mid}
 use Rattle.strands.proofs.Handing.{before-or-at}
-use Rattle.regionrun.specs.Handed.{HasParts, IsBlockFor, part}
+use Rattle.regionrun.specs.Handed.{part}
 
--- a part has as many words as are written over it
-pub part-size : (width c : ℕ) (words : List ℕ) → width * c + width ≤ length words
+-- a part has as many items as are written over it
+pub part-size : {X : Type 0} (width c : ℕ) (words : List X) → width * c + width ≤ length words
     → length (part width c words) ≡ width
 part-size width c words h =
     length-take-le (width * c + width - width * c) (drop (width * c) words)
     (omega (arith, length-drop (width * c) words)) ∙ omega arith
 
 -- the part that is written
-pub part-here : (width c : ℕ) (old run : List ℕ) → length run ≡ width → width * c ≤ length old
+pub part-here : {X : Type 0} (width c : ℕ) (old run : List X) → length run ≡ width → width * c ≤ length old
     → part width c (put_mid (width * c) width old run) ≡ run
 part-here width c old run size inside =
     let a = width * c in
@@ -33,7 +32,7 @@ part-here width c old run size inside =
     ∙ take-append_seam run (post_of a width old)
 
 -- a part of the first of two lists
-part-low : (width i : ℕ) (xs ys : List ℕ) → width * i + width ≤ length xs
+part-low : {X : Type 0} (width i : ℕ) (xs ys : List X) → width * i + width ≤ length xs
     → part width i (xs ++ ys) ≡ part width i xs
 part-low width i xs ys h =
     ap (take (width * i + width - width * i)) (drop-append-le (width * i) xs ys (omega arith))
@@ -41,7 +40,7 @@ part-low width i xs ys h =
     (omega (arith, length-drop (width * i) xs))
 
 -- those before it stay
-pub part-before : (width i c : ℕ) (old run : List ℕ) → i < c → width * c ≤ length old
+pub part-before : {X : Type 0} (width i c : ℕ) (old run : List X) → i < c → width * c ≤ length old
     → part width i (put_mid (width * c) width old run) ≡ part width i old
 part-before width i c old run below inside =
     let a = width * c in
@@ -52,31 +51,36 @@ part-before width i c old run below inside =
     ∙ sym (part-low width i (take a old) (drop a old) h)
     ∙ ap (part width i) (take-append-drop a old)
 
--- the part for one side more is written
-pub parts-more : (law : Meaning) (layout : Layout) (y b c a k : ℕ) (old run : List ℕ)
-    → a ≡ 4 * layout.window * c → k ≡ 4 * layout.window → c < sides_of layout law.mesh y
-    → HasParts law layout y b c old → IsBlockFor law layout y c b run
-    → HasParts law layout y b (c + 1) (put_mid a k old run)
-parts-more law layout y b c a k old run begins wide inside h block =
-    let width = 4 * layout.window in
-    let m : width * (c + 1) ≤ width * sides_of layout law.mesh y =
-    mul-le-mul_left width (omega arith) in
-    let each : length old ≡ width * sides_of layout law.mesh y = h.each in
-    let size : length run ≡ width = block.each in
-    let fits : width * c ≤ length old = omega arith in
-    let new = put_mid (width * c) width old run in
-    let made : HasParts law layout y b (c + 1) new = record {
-      each = same_len_mid (width * c) width old run
-          (size ∙ sym (length-take-le width (drop (width * c) old)
-          (omega (arith, length-drop (width * c) old))))
-          ∙ each;
-      parts = λ i l. elim (before-or-at i c l) [
-        | inl e ↦ subst (IsBlockFor law layout y i b) (sym (part-before width i c old run e fits))
-            (h.parts i e)
-        | inr e ↦
-            subst (λ z. IsBlockFor law layout y z b (part width z new)) (sym e)
-            (subst (IsBlockFor law layout y c b) (sym (part-here width c old run size fits)) block)
-      ];
-    } in
-    subst (λ z. HasParts law layout y b (c + 1) (put_mid z k old run)) (sym begins)
-    (subst (λ z. HasParts law layout y b (c + 1) (put_mid (width * c) z old run)) (sym wide) made)
+-- where the parts before it are good, and what is written is, one part more is good
+pub parts-more : {X : Type 0} (P : ℕ → List X → Type 0) (width c a k : ℕ) (old run : List X)
+    → a ≡ width * c → k ≡ width → length run ≡ width → width * c + width ≤ length old
+    → ((i : ℕ) → i < c → P i (part width i old)) → P c run → (i : ℕ) → i < c + 1
+    → P i (part width i (put_mid a k old run))
+parts-more P width c a k old run begins wide size fits before here i below =
+    let inside : width * c ≤ length old = omega arith in
+    subst (λ z. P i (part width i (put_mid z k old run))) (sym begins)
+    (subst (λ z. P i (part width i (put_mid (width * c) z old run))) (sym wide)
+    (elim (before-or-at i c below) [
+      | inl l ↦ subst (P i) (sym (part-before width i c old run l inside)) (before i l)
+      | inr e ↦
+          subst (λ z. P z (part width z (put_mid (width * c) width old run))) (sym e)
+          (subst (P c) (sym (part-here width c old run size inside)) here)
+    ]))
+
+-- and what holds of all items of both holds of all
+pub all-put : {X : Type 0} (P : X → Type 0) (a k : ℕ) (old run : List X) → All P old → All P run
+    → All P (put_mid a k old run)
+all-put P a k old run whole new =
+    All-append P (take a old) (run ++ post_of a k old) (All-take P a old whole)
+    (All-append P run (post_of a k old) new (All-drop P k (drop a old) (All-drop P a old whole)))
+
+pub all-part : {X : Type 0} (P : X → Type 0) (width c : ℕ) (items : List X) → All P items
+    → All P (part width c items)
+all-part P width c items whole =
+    All-take P (width * c + width - width * c) (drop (width * c) items)
+    (All-drop P (width * c) items whole)
+
+-- however the width of the part that is written is put
+pub put-wide : {X : Type 0} (width c k : ℕ) (old run : List X) → k ≡ width
+    → part width c (put_mid (width * c) k old run) ≡ part width c (put_mid (width * c) width old run)
+put-wide width c k old run e = ap (λ z. part width c (put_mid (width * c) z old run)) e

@@ -4,6 +4,7 @@ use Rattle.std.specs.Prelude.{◌≡◌, ℕ, zero, suc, ◌+◌, ◌-◌, ◌*�
 use Rattle.std.specs.Prelude.{false, if◌then◌else◌, List, length, map, slice_index_or}
 use Rattle.case_model.specs.Meaning.{Meaning}
 use Rattle.case_model.specs.declared.meshes.Mesh.{Mesh}
+use Rattle.case_model.specs.declared.points.Point.{Point}
 use Rattle.envelope.specs.declared.folds.Fold.{Fold}
 use Rattle.fronts.specs.Fronts.{loaded, risen, tent}
 use Rattle.fronts.specs.Stretches.{AreSamePlaces, count_of}
@@ -20,7 +21,7 @@ use Rattle.strands.specs.Seams.{IsSeamAt, IsSeamDone}
 use Rattle.strands.specs.Sections.{NotesInside}
 use Rattle.strands.specs.Stations.{NotesTriangles, half, seam_front}
 use Rattle.strands.specs.Tents.{IsFreshSection, IsSectionAt, IsUnfed}
-use Rattle.strands.specs.Words.{HasPoints, section_side, station_side}
+use Rattle.strands.specs.Blocks.{HasPoints, section_side, station_side}
 use Rattle.strands.specs.declared.tents.Section.{Section}
 
 -- whether these are the places of a section
@@ -83,21 +84,21 @@ IsComputed law w c (OfSection section) = IsSectionAt law w (c * w) section × Is
 IsComputed law w c (OfSeam seam) = IsSeamDone law w (c * w) seam × IsSeamAt law w (c * w + w) seam
 IsComputed law w c (OfNode hub) = IsHubAfter law w (c * w) w hub × IsHubAt law w (c * w + w) hub
 
--- the words have the points that the next region needs of a side
-abbrev pub HasIncoming : Meaning → ℕ → ℕ → ℕ → Body → List ℕ → Type 0
-HasIncoming law w c side (OfSection section) words =
-    HasPoints w (station_side law section.stretch (side == 0) w ((c - 1) * w)) words
-HasIncoming law w c side (OfSeam seam) words =
-    HasPoints w (outer_side law seam.stretch (side == 1) (half w) (c * w)) words
-HasIncoming law w c side (OfNode hub) words = HasOuter law w (c * w) side hub words
+-- the points are those that the next region needs of a side
+abbrev pub HasIncoming : Meaning → ℕ → ℕ → ℕ → Body → List Point → Type 0
+HasIncoming law w c side (OfSection section) points =
+    HasPoints w (station_side law section.stretch (side == 0) w ((c - 1) * w)) points
+HasIncoming law w c side (OfSeam seam) points =
+    HasPoints w (outer_side law seam.stretch (side == 1) (half w) (c * w)) points
+HasIncoming law w c side (OfNode hub) points = HasOuter law w (c * w) side hub points
 
--- the words have the points of region c for a side
-abbrev pub HasOutgoing : Meaning → ℕ → ℕ → ℕ → Body → List ℕ → Type 0
-HasOutgoing law w c side (OfSection section) words =
-    HasPoints w (section_side law section.stretch (side == 0) (c * w)) words
-HasOutgoing law w c side (OfSeam seam) words =
-    HasPoints w (inner_side law seam.stretch (side == 1) (half w) w (c * w)) words
-HasOutgoing law w c side (OfNode hub) words = HasInner law w (c * w) side hub words
+-- the points are those of region c for a side
+abbrev pub HasOutgoing : Meaning → ℕ → ℕ → ℕ → Body → List Point → Type 0
+HasOutgoing law w c side (OfSection section) points =
+    HasPoints w (section_side law section.stretch (side == 0) (c * w)) points
+HasOutgoing law w c side (OfSeam seam) points =
+    HasPoints w (inner_side law seam.stretch (side == 1) (half w) w (c * w)) points
+HasOutgoing law w c side (OfNode hub) points = HasInner law w (c * w) side hub points
 
 -- two bodies of the same kind, with the same places
 abbrev pub IsSameBody : Body → Body → Type 0

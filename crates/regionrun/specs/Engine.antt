@@ -1,15 +1,15 @@
 -- What every engine keeps of the strands of a layout and of their blocks, and gives back.
-use Rattle.std.specs.Prelude.{◌≡◌, ℕ, ◌+◌, ◌*◌, ◌/◌, ◌%◌, ◌<◌, ◌==◌, nat_lt, Bool, not}
-use Rattle.std.specs.Prelude.{if◌then◌else◌, List, [], length, slice_index_or}
-use Rattle.case_model.specs.declared.meshes.Mesh.{Mesh}
+use Rattle.std.specs.Prelude.{◌≡◌, ℕ, ◌+◌, ◌<◌, ◌≤◌, Bool, not, if◌then◌else◌, List, length}
+use Rattle.std.specs.Prelude.{slice_index_or}
 use Rattle.case_model.specs.Meaning.{Meaning}
 use Rattle.envelope.specs.Folds.{IsSameFold}
 use Rattle.regions.specs.declared.shapes.Layout.{Layout}
-use Rattle.regions.specs.Sides.{back_of, is_section, side_of, sides_of}
+use Rattle.regions.specs.Sides.{is_section}
+use Rattle.regionrun.specs.declared.frontiers.Frontier.{Frontier}
 use Rattle.regionrun.specs.declared.one_strand.Strand.{Strand}
-use Rattle.regionrun.specs.Handed.{IsBlock, part}
+use Rattle.regionrun.specs.Handed.{IsBlockOf}
 use Rattle.regionrun.specs.Lawful.{IsLawful}
-use Rattle.regionrun.specs.Right.{IsBare, IsRight}
+use Rattle.regionrun.specs.Right.{IsBare, IsRight, IsSameStrand}
 use Rattle.regionrun.specs.Stubs.{HasStub}
 use Rattle.schedule.specs.LayoutNets.{layout_net}
 use Rattle.schedule.specs.Nets.{IsSameNet, Net}
@@ -40,43 +40,45 @@ pub record AreSameFolds {S : Type 0} (old new : List (Strand S)) : Type 0 where
   pub fold : (x : ℕ) (d : Strand S) → x < length old
       → IsSameFold (slice_index_or old x d).frontier.fold (slice_index_or new x d).frontier.fold
 
--- the first n strands have room for a block each
-pub record HaveRoom (layout : Layout) (mesh : Mesh) (n : ℕ) (blocks : List (List ℕ)) : Type 0 where
-  pub each : length blocks ≡ n
-  pub words : (y : ℕ) → y < n
-      → length (slice_index_or blocks y []) ≡ 4 * layout.window * sides_of layout mesh y
+-- a strand has the block at hand that it wrote last
+pub record HasHanded (law : Meaning) (layout : Layout) (frontier : Frontier) : Type 0 where
+  pub block : (b : ℕ) → frontier.computed ≡ b + 1 → b < layout.windows
+      → IsBlockOf law layout frontier.number b frontier.block.items
 
--- where so many regions of each strand are computed, the last block that each wrote
-pub record HaveBlocks (law : Meaning) (layout : Layout) (count : ℕ → ℕ) (blocks : List (List ℕ))
-    : Type 0 where
-  pub room : HaveRoom layout law.mesh (length layout.shapes) blocks
-  pub block : (y b : ℕ) → y < length layout.shapes → count y ≡ b + 1 → b < layout.windows
-      → IsBlock law layout y b (slice_index_or blocks y [])
+-- a strand of this kind between its turns, with c regions computed
+pub record IsAtRest {S : Type 0} (strand_of entered_of : S → ℕ) (law : Meaning) (layout : Layout)
+    (section : Bool) (c : ℕ) (strand : Strand S) : Type 0 where
+  pub kind : is_section layout strand.frontier.number ≡ section
+  pub at : IsStrandAt strand_of entered_of law layout strand.frontier.number c strand
+  pub handed : HasHanded law layout strand.frontier
 
--- what the neighbour of strand x at side c has handed to it last
-abbrev pub handed_words : Layout → Mesh → ℕ → ℕ → List (List ℕ) → List ℕ
-handed_words layout mesh x c blocks =
-    part (4 * layout.window) (back_of layout mesh x c)
-    (slice_index_or blocks (side_of layout mesh x c) [])
+-- each of these strands
+pub record AreEachAtRest {S : Type 0} (strand_of entered_of : S → ℕ) (law : Meaning)
+    (layout : Layout) (section : Bool) (c : ℕ) (strands : List (Strand S)) : Type 0 where
+  pub each : (i : ℕ) (d : Strand S) → i < length strands
+      → IsAtRest strand_of entered_of law layout section c (slice_index_or strands i d)
 
--- the turns go through the regions by number: in turn 2 * m region m of all sections, in turn
--- 2 * m + 1 that of all stations
-abbrev pub is_even : ℕ → Bool
-is_even t = t % 2 == 0
+-- nothing of these strands has changed but how far they are
+pub record AreSameStrands {S : Type 0} (old new : List (Strand S)) : Type 0 where
+  pub each : (i : ℕ) (d : Strand S) → i < length old
+      → IsSameStrand (slice_index_or old i d).frontier (slice_index_or new i d).frontier
 
-abbrev pub has_turn : Layout → ℕ → ℕ → Bool
-has_turn layout t x = if is_section layout x then is_even t else not (is_even t)
+-- all strands of this kind, in order: their numbers begin with `first`
+pub record AreAtRest {S : Type 0} (strand_of entered_of : S → ℕ) (law : Meaning) (layout : Layout)
+    (section : Bool) (c first : ℕ) (strands : List (Strand S)) : Type 0 where
+  pub all : (x : ℕ) → x < length layout.shapes → is_section layout x ≡ section
+      → (first ≤ x) × (x < first + length strands)
+  pub number_is : (i : ℕ) (d : Strand S) → i < length strands
+      → (slice_index_or strands i d).frontier.number ≡ first + i
+  pub rest : AreEachAtRest strand_of entered_of law layout section c strands
 
--- how many regions of strand x are computed when the strands below n have had turn t
-unfoldable pub count_at : Layout → ℕ → ℕ → ℕ → ℕ
-count_at layout t n x =
-    if has_turn layout t x then t / 2 + (if nat_lt x n then 1 else 0) else (t + 1) / 2
-
--- where the strands below n have had turn t
-pub record AreAtTurn {S : Type 0} (strand_of entered_of : S → ℕ) (law : Meaning)
-    (layout : Layout) (t n : ℕ) (strands : List (Strand S)) (blocks : List (List ℕ)) : Type 0 where
-  pub all : AreAt strand_of entered_of law layout (count_at layout t n) strands
-  pub handed : HaveBlocks law layout (count_at layout t n) blocks
+-- the turns go through the regions by number: first region c of all sections, then that of all
+-- stations; these are the strands beside those whose turn it is
+abbrev pub AreBeside : {S : Type 0} → (S → ℕ) → (S → ℕ) → Meaning → Layout → Bool → ℕ → ℕ
+    → List (Strand S) → Type 0
+AreBeside strand_of entered_of law layout section c first strands =
+    AreAtRest strand_of entered_of law layout (not section) (if section then c else c + 1) first
+    strands
 
 -- what all turns of a run have in common
 pub record IsCourse (law : Meaning) (layout : Layout) (net : Net) : Type 0 where

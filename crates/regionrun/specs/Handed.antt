@@ -1,11 +1,13 @@
--- The blocks that strands hand to one another, as words.
-use Rattle.std.specs.Prelude.{◌≡◌, ℕ, ◌+◌, ◌-◌, ◌*◌, ◌<◌, ◌≤◌, Bool, false, if◌then◌else◌, List}
-use Rattle.std.specs.Prelude.{length, slice_range}
+-- The blocks that strands hand to one another, as points and as words.
+use Rattle.std.specs.Prelude.{◌≡◌, ◌≢◌, ℕ, ◌+◌, ◌-◌, ◌*◌, ◌<◌, ◌≤◌, Bool, false, if◌then◌else◌}
+use Rattle.std.specs.Prelude.{List, [], ◌∷◌, length, slice_index_or, slice_range}
 use Rattle.case_model.specs.declared.points.Point.{Point}
 use Rattle.case_model.specs.declared.points.Point.TheVariants.{Bad}
 use Rattle.case_model.specs.declared.meshes.Mesh.{Mesh}
 use Rattle.case_model.specs.Meaning.{Meaning}
+use Rattle.case_model.specs.Range.{IsPoint}
 use Rattle.case_model.specs.Rows.{Row, row}
+use Rattle.case_model.specs.Words.{words_of}
 use Rattle.fronts.specs.Stretches.{count_of}
 use Rattle.fronts.specs.declared.stretches.Stretch.{Stretch}
 use Rattle.regions.specs.declared.shapes.Layout.{Layout}
@@ -16,7 +18,7 @@ use Rattle.regions.specs.Blocks.{block_spot, block_step}
 use Rattle.regions.specs.Sides.{back_of, is_section, shape_at, side_of, sides_of}
 use Rattle.strands.specs.Beside.{HasBeside}
 use Rattle.strands.specs.Stations.{half}
-use Rattle.strands.specs.Words.{HasPoints}
+use Rattle.strands.specs.Blocks.{HasPoints}
 
 -- the point that a row has at a place of a pipe; a node has none
 abbrev pub point_on : Row → Spot → Point
@@ -28,25 +30,54 @@ unfoldable pub block_point : Meaning → Layout → ℕ → ℕ → ℕ → ℕ 
 block_point law layout y c b j =
     point_on (row law (block_step layout y b j)) (block_spot layout law.mesh y c j)
 
+-- these points are block b of strand y for its side c
+pub record ArePointsFor (law : Meaning) (layout : Layout) (y c b : ℕ) (points : List Point)
+    : Type 0 where
+  pub each : length points ≡ layout.window
+  pub has : HasPoints layout.window (block_point law layout y c b) points
+
+-- the part for side c of a list that has so many items for each side
+abbrev pub part : {X : Type 0} → ℕ → ℕ → List X → List X
+part width c items = slice_range items (width * c) (width * c + width)
+
+-- these points are block b of strand y: its parts for all its sides, one after another
+pub record IsBlockOf (law : Meaning) (layout : Layout) (y b : ℕ) (points : List Point) : Type 0 where
+  pub each : length points ≡ layout.window * sides_of layout law.mesh y
+  pub parts : (c : ℕ) → c < sides_of layout law.mesh y
+      → ArePointsFor law layout y c b (part layout.window c points)
+
+-- the four words of point number j
+abbrev pub quad : List ℕ → ℕ → List ℕ
+quad words j =
+    slice_index_or words (4 * j) 0 ∷ slice_index_or words (4 * j + 1) 0
+    ∷ slice_index_or words (4 * j + 2) 0 ∷ slice_index_or words (4 * j + 3) 0 ∷ []
+
+-- so many points stand in these words
+pub record HasWords (count : ℕ) (point : ℕ → Point) (words : List ℕ) : Type 0 where
+  pub each : (j : ℕ) → j < count → quad words j ≡ words_of (point j)
+
+-- of words that tell so many points, all in range, these are the points
+pub record AreRead (count : ℕ) (words : List ℕ) (points : List Point) : Type 0 where
+  pub each : length points ≡ count
+  pub has : (point : ℕ → Point) → ((j : ℕ) → IsPoint (point j)) → HasWords count point words
+      → HasPoints count point points
+
+-- point number j is put into words, and nothing else changes
+pub record IsWritten (j : ℕ) (point : Point) (old new : List ℕ) : Type 0 where
+  pub same : length new ≡ length old
+  pub here : quad new j ≡ words_of point
+  pub beside : (i : ℕ) → i ≢ j → quad new i ≡ quad old i
+
 -- these words are block b of strand y for its side c
 pub record IsBlockFor (law : Meaning) (layout : Layout) (y c b : ℕ) (words : List ℕ) : Type 0 where
   pub each : length words ≡ 4 * layout.window
-  pub points : HasPoints layout.window (block_point law layout y c b) words
-
--- the part for side c of words that have so many for each side
-abbrev pub part : ℕ → ℕ → List ℕ → List ℕ
-part width c words = slice_range words (width * c) (width * c + width)
-
--- these words have a part for each side of strand y, and the first of them, so many, are those of
--- its block b
-pub record HasParts (law : Meaning) (layout : Layout) (y b count : ℕ) (words : List ℕ)
-    : Type 0 where
-  pub each : length words ≡ 4 * layout.window * sides_of layout law.mesh y
-  pub parts : (c : ℕ) → c < count → IsBlockFor law layout y c b (part (4 * layout.window) c words)
+  pub points : HasWords layout.window (block_point law layout y c b) words
 
 -- these words are block b of strand y: its parts for all its sides, one after another
-abbrev pub IsBlock : Meaning → Layout → ℕ → ℕ → List ℕ → Type 0
-IsBlock law layout y b words = HasParts law layout y b (sides_of layout law.mesh y) words
+pub record IsBlock (law : Meaning) (layout : Layout) (y b : ℕ) (words : List ℕ) : Type 0 where
+  pub each : length words ≡ 4 * layout.window * sides_of layout law.mesh y
+  pub parts : (c : ℕ) → c < sides_of layout law.mesh y
+      → IsBlockFor law layout y c b (part (4 * layout.window) c words)
 
 -- the stretch has the places of strand x, a section
 pub record HasSection (layout : Layout) (x : ℕ) (stretch : Stretch) : Type 0 where

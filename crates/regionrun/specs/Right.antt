@@ -4,6 +4,7 @@ use Rattle.std.specs.Prelude.{◌≡◌, ℕ, ◌+◌, ◌-◌, ◌*◌, ◌/◌
 use Rattle.std.specs.Prelude.{false, List, [], ◌∷◌, length, map, if◌then◌else◌, Some}
 use Rattle.case_model.specs.declared.meshes.End.{End}
 use Rattle.case_model.specs.declared.meshes.Mesh.{Mesh}
+use Rattle.case_model.specs.declared.points.Point.{Point}
 use Rattle.case_model.specs.Meaning.{Meaning}
 use Rattle.case_model.specs.Mesh.{base_of, ends_of, reaches}
 use Rattle.envelope.specs.Folds.{IsSameFold, Stands, spans_of, steps_of}
@@ -16,7 +17,7 @@ use Rattle.regions.specs.Sides.{back_of, is_section, shape_at, side_of, sides_of
 use Rattle.regionrun.specs.Bodies.{IsBodyAt, IsBodyOf, has_block}
 use Rattle.regionrun.specs.declared.bodies.Body.{Body}
 use Rattle.regionrun.specs.declared.frontiers.Frontier.{Frontier}
-use Rattle.regionrun.specs.Handed.{IsBlockFor}
+use Rattle.regionrun.specs.Handed.{ArePointsFor, IsBlockFor}
 use Rattle.regionrun.specs.Owned.{owned}
 use Rattle.schedule.specs.Nets.{regions_of}
 use Rattle.strands.specs.Marks.{marked}
@@ -78,6 +79,21 @@ pub record IsWantedSome (law : Meaning) (frontier : Frontier) (c : ℕ) (words :
     : Type 0 where
   pub layout : Layout
   pub wanted : IsWanted law layout frontier c words
+
+-- these points are that block
+pub record IsGiven (law : Meaning) (layout : Layout) (frontier : Frontier) (c : ℕ)
+    (points : List Point) : Type 0 where
+  pub right : IsRight law layout frontier
+  pub side : c < sides_of layout law.mesh frontier.number
+  pub block : ℕ
+  pub needed : needs_of (is_section layout frontier.number) frontier.computed ≡ Some block
+  pub handed : ArePointsFor law layout (side_of layout law.mesh frontier.number c)
+      (back_of layout law.mesh frontier.number c) block points
+
+pub record IsGivenSome (law : Meaning) (frontier : Frontier) (c : ℕ) (points : List Point)
+    : Type 0 where
+  pub layout : Layout
+  pub given : IsGiven law layout frontier c points
 
 -- whether the block of side c is loaded
 unfoldable pub has_loaded : Frontier → ℕ → Bool

@@ -1,19 +1,22 @@
 //! What a strand keeps of its places, by its kind: how it takes blocks in, is computed, and hands
 //! its own blocks on.
-ghost use Rattle.std.specs.Prelude.{◌≡◌, ℕ, ◌+◌, ◌*◌, ◌^◌, ◌<◌, ◌≤◌, length};
-ghost use Rattle.case_model.specs.Meaning.{IsMeaning, Meaning};
+ghost use Rattle.std.specs.Prelude.{◌≡◌, ℕ, ◌+◌, ◌*◌, ◌^◌, ◌<◌, ◌≤◌, All, length};
+ghost use Rattle.case_model.specs.Meaning.{Meaning};
+ghost use Rattle.case_model.specs.Range.{IsPoint};
+ghost use Rattle.case_model.specs.declared.meshes.TheConstants.{MOST_ENDS};
 ghost use Rattle.envelope.specs.Folds.{IsSameFold, Stands};
 ghost use Rattle.regionrun.specs.Bodies.{FitsWindow, HasIncoming, HasLoaded, HasOutgoing};
 ghost use Rattle.regionrun.specs.Bodies.{IsBareBody, IsBodyAt, IsComputed, IsFedBody, IsNoting};
 ghost use Rattle.regionrun.specs.Bodies.{IsOpen, IsSameBody, body_marks, is_section_body};
 ghost use Rattle.regionrun.specs.Bodies.{IsSectionAfter, section_marks, side_count, window_start};
+ghost use Rattle.regionrun.specs.Handed.{part};
 ghost use Rattle.fronts.specs.Stretches.{AreSamePlaces, count_of};
 ghost use Rattle.strands.specs.Sections.{NotesInside};
 ghost use Rattle.strands.specs.Tents.{IsFed, IsSectionAt, IsUnfed};
 ghost use Rattle.regions.specs.declared.shapes.TheConstants.{WIDEST_WINDOW};
 ghost use Rattle.strands.specs.Marks.{Marks, marked, or_marked};
 
-use case_model::Law;
+use case_model::{Law, Point};
 use envelope::Fold;
 use strands::{Hub, Seam, Section};
 
@@ -48,22 +51,23 @@ impl Body {
     }
 
     /// Takes the block of one side in that a region needs.
-    pub(crate) fn load(&mut self, side: usize, window: usize, region: u64, words: &[u64])
+    pub(crate) fn load(&mut self, side: usize, window: usize, region: u64, points: &[Point])
         requires few_steps { window ≤ WIDEST_WINDOW }
         requires few { region ≤ 100_000_001 }
         requires side { side < side_count self.old }
-        requires each { length words.now ≡ 4 * window }
+        requires each { length points.now ≡ window }
+        requires in_range { All IsPoint points.now }
         requires fits { FitsWindow window self.old }
         ensures loaded { HasLoaded side self.old self.new }
-        ensures open { (law : Meaning) → IsMeaning law → IsOpen law window region self.old →
-            HasIncoming law window region side self.old words.now →
+        ensures open { (law : Meaning) → IsOpen law window region self.old →
+            HasIncoming law window region side self.old points.now →
             IsOpen law window region self.new }
     {
         let start = self.start(window, region);
         match self {
-            Body::OfSection(section) => section.load(side == 0, window, start, words),
-            Body::OfSeam(seam) => seam.load(side == 1, window, start, words),
-            Body::OfNode(hub) => hub.load(side, window, start, words),
+            Body::OfSection(section) => section.load(side == 0, window, start, points),
+            Body::OfSeam(seam) => seam.load(side == 1, window, start, points),
+            Body::OfNode(hub) => hub.load(side, window, start, points),
         }
     }
 
@@ -93,20 +97,42 @@ impl Body {
     }
 
     /// Writes a region's block for one side.
-    pub(crate) fn write(&self, side: usize, window: usize, region: u64, out: &mut [u64])
+    pub(crate) fn write(&self, side: usize, window: usize, region: u64, out: &mut [Point])
         requires few_steps { window ≤ WIDEST_WINDOW }
         requires few { region ≤ 100_000_001 }
         requires side { side < side_count self.now }
-        requires each { length out.old ≡ 4 * window }
+        requires each { length out.old ≡ window }
         requires fits { FitsWindow window self.now }
-        ensures { (law : Meaning) → IsComputed law window region self.now →
+        ensures points { (law : Meaning) → IsComputed law window region self.now →
             HasOutgoing law window region side self.now out.new }
+        ensures in_range { All IsPoint out.new }
+        ensures same { length out.new ≡ length out.old }
     {
         let start = steps_in(window, region);
         match self {
             Body::OfSection(section) => section.write(side == 0, window, start, out),
             Body::OfSeam(seam) => seam.write(side == 1, window, start, out),
             Body::OfNode(hub) => hub.write(side, window, start, out),
+        }
+    }
+
+    /// Writes a region's block for all sides, one after another.
+    pub(crate) fn write_all(&self, window: usize, region: u64, sides: usize, out: &mut [Point])
+        requires few_steps { window ≤ WIDEST_WINDOW }
+        requires few { region ≤ 100_000_001 }
+        requires few_sides { sides ≤ MOST_ENDS }
+        requires sides { sides ≡ side_count self.now }
+        requires fits { FitsWindow window self.now }
+        requires room { length out.old ≡ window * sides }
+        requires in_range { All IsPoint out.old }
+        ensures parts { (law : Meaning) (side : ℕ) → IsComputed law window region self.now →
+            side < sides → HasOutgoing law window region side self.now (part window side out.new) }
+        ensures in_range { All IsPoint out.new }
+        ensures same { length out.new ≡ length out.old }
+    {
+        for side in 0..sides {
+            let part = &mut out[window * side..window * side + window];
+            self.write(side, window, region, part);
         }
     }
 }

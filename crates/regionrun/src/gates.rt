@@ -2,7 +2,7 @@
 ghost use Rattle.std.specs.Prelude.{◌≡◌, ℕ, ◌+◌, ◌<◌, ◌^◌};
 
 /// What a strand holds of a gate: the name of the strand, and how many of its regions it entered.
-pub trait EntryStub: Drop + Send {
+pub trait EntryStub: Drop + Send + Sync {
     ghost strand_of: { Self → ℕ };
 
     ghost entered_of: { Self → ℕ };

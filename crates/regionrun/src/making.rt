@@ -27,7 +27,7 @@ use crate::one_strand::Strand;
 use crate::sizes::sizes;
 use crate::strand_folds::{base, strand_fold};
 use crate::surveys::Survey;
-use case_model::Law;
+use case_model::{Law, Point};
 use envelope::{Fold, stands_for_equal_maps};
 use regions::{Shape, layouts_are_sound};
 use std::alloc::{AllocError, Global};
@@ -52,14 +52,18 @@ impl Frontier {
         layouts_are_sound();
         let body = make_body(alloc, law, survey, number)?;
         let fold = first_fold(alloc, law, survey, number, &body)?;
+        let window = survey.layout.window as u16;
+        let sides = survey.layout.sides(survey.mesh, number) as u8;
+        let block = vec![in alloc; Point::Bad; window as usize * sides as usize]?;
         Ok(Frontier {
             number,
-            window: survey.layout.window as usize,
-            windows: survey.layout.windows,
-            sides: survey.layout.sides(survey.mesh, number) as usize,
+            windows: survey.layout.windows as u32,
             computed: 0,
+            window,
+            sides,
             body,
             fold,
+            block,
         })
     }
 }

@@ -62,7 +62,7 @@ impl<S: EntryStub> Strand<S> {
     pub fn computed(&self) -> u64
         ensures { result ≡ self.now.frontier.computed }
     {
-        self.frontier.computed
+        self.frontier.computed as u64
     }
 
     /// Whether all its regions are computed.
@@ -88,6 +88,7 @@ impl<S: EntryStub> Strand<S> {
             None => None,
         };
     }
+
     /// Takes in the block that the entered region needs of a side.
     pub fn load<L: Law>(&mut self, law: &L, side: u32, words: &[u64])
         requires wanted { IsWantedSome (L.meaning law.now) self.old.frontier side words.now }
@@ -100,7 +101,7 @@ impl<S: EntryStub> Strand<S> {
             × (self.new.frontier.computed ≡ self.old.frontier.computed) }
         ensures stub { self.new.stub ≡ self.old.stub }
     {
-        self.frontier.load(law, side as usize, words);
+        self.frontier.load_words(law, side as usize, words);
     }
 
     /// Computes the entered region, of which all needed blocks are loaded: notes its points, and
@@ -122,6 +123,6 @@ impl<S: EntryStub> Strand<S> {
         ensures same { IsSameStrand self.old.frontier self.new.frontier }
         ensures stub { self.new.stub ≡ self.old.stub }
     {
-        self.frontier.compute(law, out);
+        self.frontier.compute_words(law, out);
     }
 }

@@ -3,7 +3,7 @@ use Rattle.regionrun.specs.Lawful.{IsLawful}
 use Rattle.schedule.specs.LayoutNets.{layout_net}
 use Rattle.schedule.specs.Nets.{IsSameNet}
 use Rattle.schedule.specs.Plans.{net_of}
-use Rattle.regionrun.proofs.Stepping.{all-written}
+use Rattle.regionrun.proofs.Halving.{all-written}
 use Rattle.regionrun.specs.Engine.{AreAt, AreSameFolds}
 use Rattle.regionrun.specs.Right.{region_count}
 use Rattle.regionrun.proofs.serial.run_serial.Goals as goal

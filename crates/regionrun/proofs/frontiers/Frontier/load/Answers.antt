@@ -1,17 +1,17 @@
 use Rattle.std.proofs.Common.{ℕ, ◌<◌, subst}
-use Rattle.regionrun.proofs.Keeping.{right-sides, taken, wanted-side}
+use Rattle.regionrun.proofs.Keeping.{given-side, right-sides, taken}
 use Rattle.regionrun.specs.Right.{has_loaded}
 use Rattle.regionrun.proofs.frontiers.Frontier.load.Goals as goal
 
 pub load-requires-clause-side : goal.load-requires-clause-side
 load-requires-clause-side g c =
-    wanted-side (g.L.Law.meaning c.args.law.now) c.requires.wanted.layout c.args.self.now
-    c.args.side c.args.words.now c.requires.wanted.wanted
+    given-side (g.L.Law.meaning c.args.law.now) c.requires.given.layout c.args.self.now
+    c.args.side c.args.points.now c.requires.given.given
 
 pub returns-clause-right : goal.returns-clause-right
-returns-clause-right g c = λ layout wanted.
+returns-clause-right g c = λ layout given.
     let law = g.L.Law.meaning c.args.law.now in
-    let right = wanted.right in
+    let right = given.right in
     record {
       laid_out = right.laid_out;
       there = right.there;
@@ -19,9 +19,9 @@ returns-clause-right g c = λ layout wanted.
       windows_are = right.windows_are;
       sides_are = right.sides_are;
       regions = right.regions;
-      keeps = taken law layout c.args.self.now c.load.new.self c.args.side c.args.words.now
-          (c.layouts_are_lawful.ensures layout law.mesh right.laid_out) wanted
-          c.load.ensures.loaded.same (c.load.ensures.open law c.keeps_range.ensures);
+      keeps = taken law layout c.args.self.now c.load.new.self c.args.side c.args.points.now
+          (c.layouts_are_lawful.ensures layout law.mesh right.laid_out) given
+          c.load.ensures.loaded.same (c.load.ensures.open law);
       spans = right.spans;
       steps = right.steps;
       stands = right.stands;
@@ -31,8 +31,8 @@ pub returns-clause-loaded : goal.returns-clause-loaded
 unfolding has_loaded
 returns-clause-loaded g c = λ side here.
     let law = g.L.Law.meaning c.args.law.now in
-    let ready = c.requires.wanted in
+    let ready = c.requires.given in
     c.load.ensures.loaded.loaded side
     (subst (λ (n : ℕ). side < n)
-    (right-sides law ready.layout c.args.self.now.computed c.args.self.now ready.wanted.right)
+    (right-sides law ready.layout c.args.self.now.computed c.args.self.now ready.given.right)
     here)

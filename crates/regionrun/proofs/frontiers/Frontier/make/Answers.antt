@@ -17,9 +17,9 @@ returns g c =
     let body = c.in_ok-body.body in
     let keeps = c.in_ok-body.ensures.keeps in
     let given = c.in_ok-fold.ensures.given in
-    let sides : c.sides.result ≡ sides_of layout law.mesh x =
-    c.sides.ensures ∙ ap (λ (mesh : Mesh). sides_of layout mesh x) c.requires.mesh in
-    let count : c.sides.result ≡ side_count body =
+    let sides : c.sides-sides.result ≡ sides_of layout law.mesh x =
+    c.sides-sides.ensures ∙ ap (λ (mesh : Mesh). sides_of layout mesh x) c.requires.mesh in
+    let count : c.sides-sides.result ≡ side_count body =
     sides ∙ body-sides layout law.mesh x body c.requires.there
     (body-placed law layout.window 0 (shape_at layout x) body keeps.places keeps.points) in
     record {

@@ -1,0 +1,164 @@
+//! The next region of a strand: it is entered, fed with the blocks of the strands beside it and
+//! computed.
+ghost use Rattle.std.specs.Prelude.{◌≡◌, ℕ, ◌+◌, ◌-◌, ◌<◌, ◌≤◌, All, Some, false, is_some};
+ghost use Rattle.std.specs.Prelude.{length, slice_index_or, true};
+ghost use Rattle.case_model.specs.Meaning.{Meaning};
+ghost use Rattle.case_model.specs.Range.{IsPoint};
+ghost use Rattle.regionrun.specs.Engine.{AreBeside, IsAtRest, IsCourse};
+ghost use Rattle.regionrun.specs.Handed.{ArePointsFor};
+ghost use Rattle.regionrun.specs.Right.{IsFed, IsRight, IsSameStrand};
+ghost use Rattle.regions.specs.Needs.{needs_of};
+ghost use Rattle.regions.specs.Sides.{back_of, is_section, side_of, sides_of};
+ghost use Rattle.schedule.specs.Nets.{regions_of};
+ghost use Rattle.schedule.specs.Plans.{net_of};
+
+use crate::Gate;
+use crate::frontiers::Frontier;
+use crate::one_strand::Strand;
+use crate::words::part_for;
+use case_model::{Law, Point};
+use regions::{Layout, Shape};
+use schedule::Plan;
+
+/// What all turns of a run have in common.
+#[derive(Drop)]
+pub(crate) struct Course<'a, L, G> {
+    pub(crate) law: &'a L,
+    pub(crate) layout: &'a Layout,
+    pub(crate) plan: &'a Plan,
+    pub(crate) gate: &'a G,
+}
+
+/// Whose turn it is: the regions of one number, of the sections or of the stations.
+#[derive(Drop, Clone, Copy)]
+pub(crate) struct Turn {
+    pub(crate) of_sections: bool,
+    pub(crate) region: u64,
+}
+
+/// The strands of one kind, in order, and the number of the first of them.
+#[derive(Drop, Clone, Copy)]
+pub(crate) struct Half<'a, S> {
+    pub(crate) first: usize,
+    pub(crate) strands: &'a [Strand<S>],
+}
+
+/// How many stations a layout has: they stand before its sections.
+pub(crate) fn station_count(layout: &Layout) -> usize
+    ensures few { result ≤ length layout.now.shapes }
+    ensures below { (x : ℕ) → x < result → is_section layout.now x ≡ false }
+    ensures there { result < length layout.now.shapes → is_section layout.now result ≡ true }
+{
+    let shapes = layout.shapes.as_slice();
+    for x in 0..shapes.len() {
+        if matches!(shapes[x], Shape::OfSection { .. }) {
+            return x;
+        }
+    }
+    shapes.len()
+}
+
+/// Computes the next region of a strand whose turn it is, of the blocks of those beside it.
+pub(crate) fn advance<L: Law, G: Gate>(
+    course: &Course<L, G>,
+    turn: Turn,
+    beside: &Half<G::Stub>,
+    strand: &mut Strand<G::Stub>,
+)
+    requires course { IsCourse (L.meaning course.now.law.now) course.now.layout.now
+        (net_of course.now.plan.now) }
+    requires turn { turn.region < regions_of turn.of_sections course.now.layout.now.windows }
+    requires beside { AreBeside G.Stub.strand_of G.Stub.entered_of (L.meaning course.now.law.now)
+        course.now.layout.now turn.of_sections turn.region beside.now.first
+        beside.now.strands.now }
+    requires rest { IsAtRest G.Stub.strand_of G.Stub.entered_of (L.meaning course.now.law.now)
+        course.now.layout.now turn.of_sections turn.region strand.old }
+    ensures rest { IsAtRest G.Stub.strand_of G.Stub.entered_of (L.meaning course.now.law.now)
+        course.now.layout.now turn.of_sections (turn.region + 1) strand.new }
+    ensures same { IsSameStrand strand.old.frontier strand.new.frontier }
+{
+    strand.enter(course.gate);
+    feed(course, turn, beside, &mut strand.frontier);
+    strand.frontier.compute(course.law);
+}
+
+// Takes the blocks in that the next region of a strand needs.
+fn feed<L: Law, G: Gate>(
+    course: &Course<L, G>,
+    turn: Turn,
+    beside: &Half<G::Stub>,
+    frontier: &mut Frontier,
+)
+    requires course { IsCourse (L.meaning course.now.law.now) course.now.layout.now
+        (net_of course.now.plan.now) }
+    requires turn { turn.region < regions_of turn.of_sections course.now.layout.now.windows }
+    requires beside { AreBeside G.Stub.strand_of G.Stub.entered_of (L.meaning course.now.law.now)
+        course.now.layout.now turn.of_sections turn.region beside.now.first
+        beside.now.strands.now }
+    requires kind { is_section course.now.layout.now frontier.old.number ≡ turn.of_sections }
+    requires computed { frontier.old.computed ≡ turn.region }
+    requires right { IsRight (L.meaning course.now.law.now) course.now.layout.now frontier.old }
+    ensures right { IsRight (L.meaning course.now.law.now) course.now.layout.now frontier.new }
+    ensures fed { IsFed course.now.layout.now frontier.new }
+    ensures computed { frontier.new.computed ≡ frontier.old.computed }
+    ensures same { IsSameStrand frontier.old frontier.new }
+{
+    if !needs_blocks(turn) {
+        return;
+    }
+    for side in 0..frontier.sides as usize {
+        let points = handed(course, turn, beside, frontier.number, side);
+        frontier.load(course.law, side, points);
+    }
+}
+
+// Whether the regions of a turn need blocks.
+fn needs_blocks(turn: Turn) -> bool
+    ensures { result ≡ is_some (needs_of turn.of_sections turn.region) }
+{
+    !turn.of_sections || turn.region != 0
+}
+
+// What the neighbour of a strand at a side has handed to it last.
+fn handed<'a, L: Law, G: Gate>(
+    course: &Course<L, G>,
+    turn: Turn,
+    beside: &Half<'a, G::Stub>,
+    number: u32,
+    side: usize,
+) -> &'a [Point]
+    requires course { IsCourse (L.meaning course.now.law.now) course.now.layout.now
+        (net_of course.now.plan.now) }
+    requires turn { turn.region < regions_of turn.of_sections course.now.layout.now.windows }
+    requires beside { AreBeside G.Stub.strand_of G.Stub.entered_of (L.meaning course.now.law.now)
+        course.now.layout.now turn.of_sections turn.region beside.now.first
+        beside.now.strands.now }
+    requires kind { is_section course.now.layout.now number ≡ turn.of_sections }
+    requires there { number < length course.now.layout.now.shapes }
+    requires side { side
+        < sides_of course.now.layout.now (L.meaning course.now.law.now).mesh number }
+    ensures in_range { All IsPoint result.now }
+    ensures handed { (b : ℕ) → needs_of turn.of_sections turn.region ≡ Some b →
+        ArePointsFor (L.meaning course.now.law.now) course.now.layout.now
+        (side_of course.now.layout.now (L.meaning course.now.law.now).mesh number side)
+        (back_of course.now.layout.now (L.meaning course.now.law.now).mesh number side) b
+        result.now }
+{
+    let link = course.plan.link(number, side);
+    let found = strand_at(beside, link.strand as usize);
+    part_for(
+        &found.frontier.block,
+        found.frontier.window as usize,
+        link.back as usize,
+    )
+}
+
+// The strand of a half that has this number.
+fn strand_at<'a, S>(half: &Half<'a, S>, number: usize) -> &'a Strand<S>
+    requires low { half.now.first ≤ number }
+    requires high { number < half.now.first + length half.now.strands.now }
+    ensures { result.now
+        ≡ slice_index_or half.now.strands.now (number - half.now.first) result.now }
+{
+    &half.strands[number - half.first]
+}
