@@ -69,10 +69,9 @@ same_envelopes case mesh e f same =
     same_on (λ at. envelope_line case at (e at)) (λ at. envelope_line case at (f at)) (places mesh)
     (all_places (λ at. envelope_line case at (e at) ≡ envelope_line case at (f at)) mesh (λ at on. ap (envelope_line case at) (same at on)))
 
-same_peak : (case : Case) (mesh : Mesh) (e f : ProbeAt → Extreme) → 0 < length mesh.pipes → ((at : ProbeAt) → IsOn mesh at → e at ≡ f at) → peak_text case mesh e ≡ peak_text case mesh f
+pub same-peak : (case : Case) (mesh : Mesh) (e f : ProbeAt → Extreme) → 0 < length mesh.pipes → ((at : ProbeAt) → IsOnPipe mesh at → e at ≡ f at) → peak_text case mesh e ≡ peak_text case mesh f
 unfolding peak_text
-same_peak case mesh e f some same =
-    let pipes : (at : ProbeAt) → IsOnPipe mesh at → e at ≡ f at = λ at on. same at (on_pipe mesh at on) in
+same-peak case mesh e f some pipes =
     let high : e (highest e mesh) ≡ f (highest e mesh) = pipes (highest e mesh) ((highest-is mesh e some).there) in
     let low : e (lowest e mesh) ≡ f (lowest e mesh) = pipes (lowest e mesh) ((lowest-is mesh e some).there) in
     ap (λ x. peak_line case (highest e mesh) x (lowest e mesh) (e (lowest e mesh))) high
@@ -84,4 +83,4 @@ pub same-report : (case : Case) (mesh : Mesh) (e f : ProbeAt → Extreme) (s t :
     → ((at : ProbeAt) → IsOn mesh at → e at ≡ f at) → AgreeOnSamples case s t → report_text case mesh e s ≡ report_text case mesh f t
 unfolding report_text
 same-report case mesh e f s t some extremes samples =
-    rw (same_samples case s t samples, same_cavities case mesh e f extremes, same_envelopes case mesh e f extremes, same_peak case mesh e f some extremes) refl
+    rw (same_samples case s t samples, same_cavities case mesh e f extremes, same_envelopes case mesh e f extremes, same-peak case mesh e f some (λ at on. extremes at (on_pipe mesh at on))) refl

@@ -7,15 +7,20 @@ ghost use Rattle.case_model.specs.declared.meshes.Mesh.{Mesh};
 ghost use Rattle.case_model.specs.PlaceNumbers.{IsOn};
 ghost use Rattle.envelope.specs.declared.extremes.Extreme.{Extreme};
 ghost use Rattle.report.specs.Peaks.{IsHighest, IsLowest, highest, lowest};
-ghost use Rattle.report.specs.Report.{report_text};
+ghost use Rattle.report.specs.Places.{IsOnPipe};
+ghost use Rattle.report.specs.Report.{peak_text, report_text};
 
 /// The law of the peak: its two places are places of pipes, and each stands before every other, by
-/// head, by step and by order of places.
+/// head, by step and by order of places; and its line hangs on the extremes of the places of pipes
+/// alone.
 pub fn peak_is_of_pipes()
     ensures highest { (mesh : Mesh) (extremes : ProbeAt → Extreme) → 0 < length mesh.pipes →
         IsHighest extremes mesh (highest extremes mesh) }
     ensures lowest { (mesh : Mesh) (extremes : ProbeAt → Extreme) → 0 < length mesh.pipes →
         IsLowest extremes mesh (lowest extremes mesh) }
+    ensures text { (case : Case) (mesh : Mesh) (e f : ProbeAt → Extreme) → 0 < length mesh.pipes →
+        ((at : ProbeAt) → IsOnPipe mesh at → e at ≡ f at) →
+        peak_text case mesh e ≡ peak_text case mesh f }
 {}
 
 /// The law of a report's numbers: the text hangs on the extremes of the mesh's places, and on the

@@ -16,4 +16,4 @@ pub use laws::{peak_is_of_pipes, report_is_of_its_numbers};
 pub use mesh_writing::write_mesh;
 pub use messages::{write_accepted, write_range, write_refusal, write_usage};
 pub use sizing::sizes;
-pub use writing::write_report;
+pub use writing::{write_peak, write_report};

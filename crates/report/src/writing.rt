@@ -1,4 +1,4 @@
-//! The report of a run, line by line through a page.
+//! The report of a run, line by line through a page, and the line of the peak alone.
 ghost use Rattle.std.specs.Prelude.{◌≡◌, ◌≤◌, ◌<◌, ◌*◌, ◌/◌, [], ◌∷◌, length};
 ghost use Rattle.surge_io.specs.Writings.{IsAdded, IsWritten};
 ghost use Rattle.case_model.specs.Accepted.{IsAccepted};
@@ -19,7 +19,7 @@ use crate::places::{extreme_of, places_on};
 use crate::sizing::sizes;
 use case_model::{Case, Mesh, ProbeAt};
 use envelope::Fold;
-use surge_io::{Failed, Line, Page, Sink};
+use surge_io::{Failed, Line, Page, Sink, put};
 
 /// Writes the report of a run, from what a fold keeps of it: the samples of probes and watches, the
 /// cavities, the envelope of each place, and the peak. `Failed` comes only where the sink's count
@@ -41,6 +41,21 @@ pub fn write_report<K: Sink>(
     let mut page = Page::new();
     add_report(&run, &mut page, out)?;
     page.flush(out)
+}
+
+/// Writes the last line of the report alone, that of the peak. `Failed` comes only where the sink's
+/// count of faults rose in this call, and then a first part was written.
+pub fn write_peak<K: Sink>(case: &Case, mesh: &Mesh, fold: &Fold, out: &mut K) -> Result<(), Failed>
+    requires accepted { IsAccepted case.now mesh.now }
+    requires given { let probes = probe_numbers mesh.now case.now in
+        IsFoldOf ((0, mesh.now.places) ∷ []) probes case.now.steps case.now.every fold.now }
+    ensures { IsWritten K.held K.faults result out.old out.new
+        (peak_text case.now mesh.now (extremes_of mesh.now fold.now)) }
+{
+    let run = Run { case, mesh, fold };
+    limits(&run);
+    let line = line_of_peak(&run);
+    put(out, line.as_bytes())
 }
 
 // What a report is written of: an accepted case, its mesh, and a fold over all places of that.

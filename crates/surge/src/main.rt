@@ -3,10 +3,11 @@
 #![tactic(auto)]
 
 ghost use Rattle.std.specs.Prelude.{◌≡◌, ◌⊎◌, ◌≤◌, ◌≢◌, ℕ, List as Items, map, true, false, IfOk};
-ghost use Rattle.std.specs.Prelude.{string_bytes};
+ghost use Rattle.std.specs.Prelude.{None, string_bytes};
 ghost use Rattle.std.specs.Process.{exit_status};
+ghost use Rattle.command_words.specs.CommandLine.{job_of};
 ghost use Rattle.surge_io.specs.Faults.{Rose};
-ghost use Rattle.surge_top.specs.Answer.{answer, are_read, usage};
+ghost use Rattle.surge_top.specs.Answer.{answer, are_read, unread};
 ghost use Rattle.surge_top.specs.Outcome.{IsInput, Tells};
 ghost use Rattle.surge_top.specs.Status.{number_of, IsAnswered};
 
@@ -42,10 +43,11 @@ fn run<R: AllocGlobal, S: Source, K: Sink>(
         (bytes : Items ℕ) × IsInput S.gives S.left src.old src.new bytes
         × Tells result (K.held out.old) (K.held out.new) (answer texts bytes) }
     ensures refused { let texts = map string_bytes words.now in
-        (are_read texts ≡ false) → (src.new ≡ src.old)
-        × ((result ≡ Status.Words) ⊎ (result ≡ Status.WriteFault) ⊎ (result ≡ Status.Memory))
-        × Tells result (K.held out.old) (K.held out.new) usage }
-    ensures words { (result ≡ Status.Words) → are_read (map string_bytes words.now) ≡ false }
+        (are_read texts ≡ false) → (src.new ≡ src.old) × (result ≢ Status.ReadFault)
+        × Tells result (K.held out.old) (K.held out.new) (unread texts) }
+    ensures words { (result ≡ Status.Words) → job_of (map string_bytes words.now) ≡ None }
+    ensures usage { (job_of (map string_bytes words.now) ≡ None) →
+        (result ≡ Status.Words) ⊎ (result ≡ Status.WriteFault) ⊎ (result ≡ Status.Memory) }
     ensures unwritten { (result ≡ Status.ReadFault) ⊎ (result ≡ Status.Memory) →
         K.held out.new ≡ K.held out.old }
     ensures read_fault { result ≡ Status.ReadFault → Rose (S.faults src.old) (S.faults src.new) }

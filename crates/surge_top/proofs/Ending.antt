@@ -1,12 +1,12 @@
 -- The status of a text that was to be written.
-use Rattle.std.proofs.Common.{◌≡◌, ◌∙◌, ℕ, List, Option, Result, Ok, Err, ap, subst, sym}
+use Rattle.std.proofs.Common.{◌≡◌, ◌≢◌, ◌∙◌, ◌⊎◌, inl, inr, ℕ, List, Option, Result, Ok, Err, ap, refl, subst, sym}
 use Rattle.std.specs.Prelude.{MatchResult}
 use Rattle.surge_io.specs.Writings.{IsWritten}
 use Rattle.surge_top.specs.Answer.{Answer}
 use Rattle.surge_top.specs.Outcome.{HasAnswered}
 use Rattle.surge_top.specs.Status.{IsAnswered, number_of}
 use Rattle.surge_top.specs.declared.status.Status.{Status}
-use Rattle.surge_top.specs.declared.status.Status.TheVariants.{WriteFault}
+use Rattle.surge_top.specs.declared.status.Status.TheVariants.{Done, Refused, Words, Range, ReadFault, WriteFault, Memory}
 
 pub told_as : {K T E : Type 0} {held : K → Option (List ℕ)} {faults : K → ℕ} {written : Result T E} {status : Status} {before now : K} {answer : Answer} (ending : Status) → IsAnswered ending → number_of ending ≡ answer.status
     → MatchResult written (λ u. status ≡ ending) (λ e. status ≡ WriteFault) → IsWritten held faults written before now answer.text → HasAnswered held faults status before now answer
@@ -24,3 +24,13 @@ told_as {written = Err fault} ending a n m w = record {
   cause = λ _. w.cause;
   later = w.later;
 }
+
+-- a status that isn't a read fault is a write fault with its cause, want of memory, or an answer's
+pub answered_or : {R : Type 0} (status : Status) → status ≢ ReadFault → (status ≡ WriteFault → R) → R ⊎ ((status ≡ Memory) ⊎ IsAnswered status)
+answered_or Done read cause = inr (inr tt)
+answered_or Refused read cause = inr (inr tt)
+answered_or Words read cause = inr (inr tt)
+answered_or Range read cause = inr (inr tt)
+answered_or ReadFault read cause = absurd (read refl)
+answered_or WriteFault read cause = inl (cause refl)
+answered_or Memory read cause = inr (inl refl)

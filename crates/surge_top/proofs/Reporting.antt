@@ -24,7 +24,9 @@ use Rattle.envelope.specs.Rows.{rows_noted, extreme_at}
 use Rattle.envelope.specs.declared.extremes.Extreme.{Extreme}
 use Rattle.envelope.specs.declared.folds.Fold.{Fold}
 use Rattle.case_model.specs.Accepted.{IsAccepted}
-use Rattle.report.specs.Report.{report_text}
+use Rattle.report.proofs.Numbers.{on_pipe}
+use Rattle.report.specs.Places.{IsOnPipe}
+use Rattle.report.specs.Report.{peak_text, report_text}
 use Rattle.report.specs.Sizes.{IsSmall}
 
 -- ---- the fold that is made
@@ -58,6 +60,17 @@ abbrev pub TextLaw : Type 0
 TextLaw = (case : Case) (mesh : Mesh) (e f : ProbeAt → Extreme) (s t : ℕ → ℕ → Option Sample) → 0 < length mesh.pipes → ((at : ProbeAt) → IsOn mesh at → e at ≡ f at)
     → ((j step : ℕ) → j < length case.probes → step ≤ case.steps → step % case.every ≡ 0 → s j step ≡ t j step) → report_text case mesh e s ≡ report_text case mesh f t
 
+abbrev pub PeakLaw : Type 0
+PeakLaw = (case : Case) (mesh : Mesh) (e f : ProbeAt → Extreme) → 0 < length mesh.pipes → ((at : ProbeAt) → IsOnPipe mesh at → e at ≡ f at) → peak_text case mesh e ≡ peak_text case mesh f
+
+-- what a fold keeps of a place is what the rows have there
+abbrev Keeps : Meaning → Case → Fold → Mesh → Type 0
+Keeps law case fold mesh = (at : ProbeAt) → IsOn mesh at → extreme_kept fold (number_of mesh at) ≡ extreme_at law case.steps at
+
+kept_there : (law : Meaning) (case : Case) (fold : Fold) → ExtremeLaw → HasRows law fold → steps_of fold ≡ case.steps → first_fault law case.steps ≡ None → Keeps law case fold law.mesh
+kept_there law case fold extremes rows e clear at h =
+    extremes law fold at rows (subst (λ n. first_fault law n ≡ None) (sym e) clear) h ∙ ap (λ n. extreme_at law n at) e
+
 -- the report of what a fold keeps is that of the rows, on one mesh
 abbrev IsText : Meaning → Case → Fold → Mesh → Type 0
 IsText law case fold mesh =
@@ -68,16 +81,33 @@ text_over : (law : Meaning) (case : Case) (fold : Fold) → ExtremeLaw → Sampl
 text_over law case fold extremes samples text told clear a small on given =
     let rows : HasRows law fold = record { numbered = a.numbered; spans = given.spans_are; stands = told } in
     let over : IsFoldOfCase law case fold = record { steps = given.steps_are; every = given.every_is; probes = given.probes_are; on = λ j h. on j no_probe h } in
-    let e = given.steps_are in
     text case law.mesh (λ at. extreme_kept fold (number_of law.mesh at)) (extreme_at law case.steps) (sample_kept fold) (λ j step. sample law case (probe_at case j).at step)
     (omega (arith, small.same_pipes, a.some))
-    (λ at h. extremes law fold at rows (subst (λ n. first_fault law n ≡ None) (sym e) clear) h ∙ ap (λ n. extreme_at law n at) e)
+    (kept_there law case fold extremes rows given.steps_are clear)
     (λ j step h l m. samples law case fold j step rows over h)
 
 pub text_is : (law : Meaning) (case : Case) (mesh : Mesh) (fold : Fold) → law.mesh ≡ mesh → ExtremeLaw → SampleLaw → TextLaw → Stands fold (rows_noted law) → first_fault law case.steps ≡ None
     → IsAccepted case mesh → IsSmall case mesh → All (λ probe. IsOn mesh probe.at) case.probes → IsFoldOf ((0, mesh.places) ∷ []) (probe_numbers mesh case) case.steps case.every fold
     → report_text case mesh (λ at. extreme_kept fold (number_of mesh at)) (sample_kept fold) ≡ report_text case mesh (extreme_at law case.steps) (λ j step. sample law case (probe_at case j).at step)
 text_is law case mesh fold e extremes samples text told clear = subst (IsText law case fold) e (text_over law case fold extremes samples text told clear)
+
+-- the same of the peak's line
+abbrev IsPeak : Meaning → Case → Fold → Mesh → Type 0
+IsPeak law case fold mesh =
+    IsAccepted case mesh → IsSmall case mesh → IsFoldOf ((0, mesh.places) ∷ []) (probe_numbers mesh case) case.steps case.every fold
+    → peak_text case mesh (λ at. extreme_kept fold (number_of mesh at)) ≡ peak_text case mesh (extreme_at law case.steps)
+
+peak_over : (law : Meaning) (case : Case) (fold : Fold) → ExtremeLaw → PeakLaw → Stands fold (rows_noted law) → first_fault law case.steps ≡ None → IsPeak law case fold law.mesh
+peak_over law case fold extremes peak told clear a small given =
+    let rows : HasRows law fold = record { numbered = a.numbered; spans = given.spans_are; stands = told } in
+    peak case law.mesh (λ at. extreme_kept fold (number_of law.mesh at)) (extreme_at law case.steps)
+    (omega (arith, small.same_pipes, a.some))
+    (λ at h. kept_there law case fold extremes rows given.steps_are clear at (on_pipe law.mesh at h))
+
+pub peak_is : (law : Meaning) (case : Case) (mesh : Mesh) (fold : Fold) → law.mesh ≡ mesh → ExtremeLaw → PeakLaw → Stands fold (rows_noted law) → first_fault law case.steps ≡ None
+    → IsAccepted case mesh → IsSmall case mesh → IsFoldOf ((0, mesh.places) ∷ []) (probe_numbers mesh case) case.steps case.every fold
+    → peak_text case mesh (λ at. extreme_kept fold (number_of mesh at)) ≡ peak_text case mesh (extreme_at law case.steps)
+peak_is law case mesh fold e extremes peak told clear = subst (IsPeak law case fold) e (peak_over law case fold extremes peak told clear)
 
 -- a fold of the same shape has what was given to it
 pub given_still : (spans : List (ℕ × ℕ)) (probes : List ℕ) (steps every : ℕ) (old new : Fold) → IsFoldOf spans probes steps every old → IsSameFold old new → IsFoldOf spans probes steps every new

@@ -1,3 +1,4 @@
 pub mod Answer
 pub mod Outcome
+pub mod Printing
 pub mod Status

@@ -1,4 +1,5 @@
-//! What `rounds` does with an accepted case: it computes the regions of all strands on one thread.
+//! What `rounds`, `run` and a drill do with an accepted case: they compute the regions of all
+//! strands on one thread.
 ghost use Rattle.std.specs.Prelude.{◌≡◌, ◌<◌, ◌≤◌, [], ◌∷◌, IfOk, IfSome};
 ghost use Rattle.case_model.specs.Accepted.{IsAccepted};
 ghost use Rattle.case_model.specs.FirstFault.{first_fault};
@@ -6,10 +7,11 @@ ghost use Rattle.envelope.specs.Folds.{IsFoldOf, Stands};
 ghost use Rattle.envelope.specs.RowFolds.{probe_numbers as numbers_of};
 ghost use Rattle.envelope.specs.Rows.{rows_noted};
 ghost use Rattle.scheme.specs.Laws.{meaning_of};
-ghost use Rattle.surge_top.specs.Answer.{computed};
+ghost use Rattle.surge_top.specs.Answer.{peak_of_rows, rows_text, run_of};
+ghost use Rattle.surge_top.specs.Printing.{printed_text};
 ghost use Rattle.surge_top.specs.Outcome.{HasAnswered};
 
-use crate::folding::{fold_over, probe_numbers, write_rows};
+use crate::folding::{Printed, fold_over, probe_numbers, write_rows};
 use crate::status::Status;
 use crate::top::ended;
 use case_model::{Case, Mesh};
@@ -34,11 +36,33 @@ pub(crate) fn rounds<K: Sink, G: Gate>(
     requires accepted { IsAccepted case.now mesh.now }
     requires some { 1 ≤ wish }
     requires few { wish ≤ WIDEST_WINDOW }
-    ensures { let fault = first_fault (meaning_of case.now mesh.now) case.now.steps in
-        HasAnswered K.held K.faults result out.old out.new (computed case.now mesh.now fault) }
+    ensures { let text = rows_text case.now mesh.now in
+        HasAnswered K.held K.faults result out.old out.new (run_of text case.now mesh.now) }
 {
     match fold_rows(alloc, case, mesh, wish, gate) {
-        Ok(fold) => write_answer(case, mesh, &fold, out),
+        Ok(fold) => write_answer(Printed::Report, case, mesh, &fold, out),
+        Err(AllocError) => Status::Memory,
+    }
+}
+
+/// Writes the peak's line of an accepted case, or its first fault, computed over windows of at most
+/// `wish` steps.
+pub(crate) fn peak<K: Sink, G: Gate>(
+    alloc: Global,
+    case: &Case,
+    mesh: &Mesh,
+    wish: u64,
+    out: &mut K,
+    gate: &mut G,
+) -> Status
+    requires accepted { IsAccepted case.now mesh.now }
+    requires some { 1 ≤ wish }
+    requires few { wish ≤ WIDEST_WINDOW }
+    ensures { let text = peak_of_rows case.now mesh.now in
+        HasAnswered K.held K.faults result out.old out.new (run_of text case.now mesh.now) }
+{
+    match fold_rows(alloc, case, mesh, wish, gate) {
+        Ok(fold) => write_answer(Printed::Peak, case, mesh, &fold, out),
         Err(AllocError) => Status::Memory,
     }
 }
@@ -73,19 +97,26 @@ fn fold_rows<G: Gate>(
     Ok(fold)
 }
 
-// Writes the report of a fold that was told every row of an accepted case, or its first fault.
-fn write_answer<K: Sink>(case: &Case, mesh: &Mesh, fold: &Fold, out: &mut K) -> Status
+// Writes what is to be printed of a fold that was told every row of an accepted case, or its first
+// fault.
+fn write_answer<K: Sink>(
+    printed: Printed,
+    case: &Case,
+    mesh: &Mesh,
+    fold: &Fold,
+    out: &mut K,
+) -> Status
     requires accepted { IsAccepted case.now mesh.now }
     requires given { let probes = numbers_of mesh.now case.now in
         IsFoldOf ((0, mesh.now.places) ∷ []) probes case.now.steps case.now.every fold.now }
     requires told { Stands fold.now (rows_noted (meaning_of case.now mesh.now)) }
-    ensures { let fault = first_fault (meaning_of case.now mesh.now) case.now.steps in
-        HasAnswered K.held K.faults result out.old out.new (computed case.now mesh.now fault) }
+    ensures { let text = printed_text printed case.now mesh.now in
+        HasAnswered K.held K.faults result out.old out.new (run_of text case.now mesh.now) }
 {
     sizes(case, mesh);
     match fault_in(case, mesh, fold) {
         Some((step, place)) => ended(write_range(case, mesh, step, place, out), Status::Range),
-        None => ended(write_rows(case, mesh, fold, out), Status::Done),
+        None => ended(write_rows(printed, case, mesh, fold, out), Status::Done),
     }
 }
 

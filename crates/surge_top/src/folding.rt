@@ -1,5 +1,5 @@
-//! The fold of a run, which keeps what its report tells, and the report of the rows that it was
-//! told.
+//! The fold of a run, which keeps what its report tells, and what is printed of the rows that it
+//! was told.
 ghost use Rattle.std.specs.Prelude.{◌≡◌, [], ◌∷◌, IfOk, None};
 ghost use Rattle.std.specs.List.{All};
 ghost use Rattle.case_model.specs.Accepted.{IsAccepted};
@@ -11,13 +11,21 @@ ghost use Rattle.envelope.specs.RowFolds.{probe_numbers as numbers_of};
 ghost use Rattle.envelope.specs.Rows.{rows_noted};
 ghost use Rattle.scheme.specs.Laws.{meaning_of};
 ghost use Rattle.surge_io.specs.Writings.{IsWritten};
-ghost use Rattle.surge_top.specs.Answer.{rows_text};
+ghost use Rattle.surge_top.specs.Answer.{peak_of_rows, rows_text};
+ghost use Rattle.surge_top.specs.Printing.{printed_text};
 
 use case_model::{Case, Mesh, place_number};
 use envelope::{Fold, folds_tell_rows, numbers_tell_places};
-use report::{report_is_of_its_numbers, sizes, write_report};
+use report::{peak_is_of_pipes, report_is_of_its_numbers, sizes, write_peak, write_report};
 use std::alloc::{AllocError, Global};
 use surge_io::{Failed, Sink};
+
+/// What is printed of a run: its whole report, or the line of the peak alone.
+#[derive(Clone, Copy)]
+pub(crate) enum Printed {
+    Report,
+    Peak,
+}
 
 /// A fold over all places of an accepted case, with its probes, of which nothing is noted. The
 /// error is want of memory.
@@ -52,13 +60,30 @@ pub(crate) fn probe_numbers(alloc: Global, case: &Case, mesh: &Mesh) -> Result<V
     Ok(numbers)
 }
 
-/// Writes the report of a fold that was told every row of an accepted case.
+/// Writes what is to be printed of a fold that was told every row of an accepted case.
 pub(crate) fn write_rows<K: Sink>(
+    printed: Printed,
     case: &Case,
     mesh: &Mesh,
     fold: &Fold,
     out: &mut K,
 ) -> Result<(), Failed>
+    requires accepted { IsAccepted case.now mesh.now }
+    requires given { let probes = numbers_of mesh.now case.now in
+        IsFoldOf ((0, mesh.now.places) ∷ []) probes case.now.steps case.now.every fold.now }
+    requires told { Stands fold.now (rows_noted (meaning_of case.now mesh.now)) }
+    requires clear { first_fault (meaning_of case.now mesh.now) case.now.steps ≡ None }
+    ensures { IsWritten K.held K.faults result out.old out.new
+        (printed_text printed case.now mesh.now) }
+{
+    match printed {
+        Printed::Report => write_whole(case, mesh, fold, out),
+        Printed::Peak => write_last(case, mesh, fold, out),
+    }
+}
+
+// Writes the whole report.
+fn write_whole<K: Sink>(case: &Case, mesh: &Mesh, fold: &Fold, out: &mut K) -> Result<(), Failed>
     requires accepted { IsAccepted case.now mesh.now }
     requires given { let probes = numbers_of mesh.now case.now in
         IsFoldOf ((0, mesh.now.places) ∷ []) probes case.now.steps case.now.every fold.now }
@@ -70,4 +95,19 @@ pub(crate) fn write_rows<K: Sink>(
     folds_tell_rows();
     report_is_of_its_numbers();
     write_report(case, mesh, fold, out)
+}
+
+// Writes the last line of the report.
+fn write_last<K: Sink>(case: &Case, mesh: &Mesh, fold: &Fold, out: &mut K) -> Result<(), Failed>
+    requires accepted { IsAccepted case.now mesh.now }
+    requires given { let probes = numbers_of mesh.now case.now in
+        IsFoldOf ((0, mesh.now.places) ∷ []) probes case.now.steps case.now.every fold.now }
+    requires told { Stands fold.now (rows_noted (meaning_of case.now mesh.now)) }
+    requires clear { first_fault (meaning_of case.now mesh.now) case.now.steps ≡ None }
+    ensures { IsWritten K.held K.faults result out.old out.new (peak_of_rows case.now mesh.now) }
+{
+    sizes(case, mesh);
+    folds_tell_rows();
+    peak_is_of_pipes();
+    write_peak(case, mesh, fold, out)
 }

@@ -1,25 +1,27 @@
 //! The top call of `surge`: words and a case text in, the answer out, under the headline's clause.
 ghost use Rattle.std.specs.Prelude.{◌≡◌, ◌⊎◌, ◌≤◌, ◌≢◌, ℕ, List as Items, map, true, false};
-ghost use Rattle.std.specs.Prelude.{IfSome, MatchResult};
+ghost use Rattle.std.specs.Prelude.{IfSome, MatchResult, None};
 ghost use Rattle.case_model.specs.Accepted.{IsAccepted};
-ghost use Rattle.command_words.specs.CommandLine.{IsJob};
+ghost use Rattle.command_words.specs.CommandLine.{IsJob, job_of};
+ghost use Rattle.drill.specs.Network.{drill_text};
 ghost use Rattle.netfile.specs.Verdict.{verdict};
 ghost use Rattle.surge_io.specs.Faults.{Rose};
 ghost use Rattle.surge_top.specs.Answer.{answer, answer_to, answer_case as answer_of, are_read};
-ghost use Rattle.surge_top.specs.Answer.{reads, usage};
+ghost use Rattle.surge_top.specs.Answer.{reads, unread};
 ghost use Rattle.surge_top.specs.Outcome.{HasAnswered, IsFront, IsInput, Tells};
 ghost use Rattle.surge_top.specs.Status.{IsAnswered};
 
-use crate::computing::rounds;
+use crate::computing::{peak, rounds};
 use crate::cutting::cut;
 use crate::status::Status;
 use case_model::{Case, CaseFault, Mesh};
 use case_writing::write_upgraded;
 use command_words::{Command, Job, WordsFault, read_words};
+use drill::drill_text;
 use netfile::{MOST_BYTES, read_case};
 use regionrun::Gate;
 use report::{write_accepted, write_refusal, write_usage};
-use std::alloc::Global;
+use std::alloc::{AllocError, Global};
 use surge_io::{Failed, ReadFault, Sink, Source, whole};
 
 /// What the program does: judges its words, reads a case text from the source, and writes its
@@ -27,8 +29,9 @@ use surge_io::{Failed, ReadFault, Sink, Source, whole};
 ///
 /// The answer is that of the definitions for these words and for the bytes that were taken from the
 /// source, whatever the source and the sink are and do: all bytes up to the source's end, or one
-/// past the limit. A read fault comes only where the source's count of faults rose, a write fault
-/// only where the sink's did; want of memory is free, and comes before the first byte is written.
+/// past the limit. Refused words and a drill have none taken. A read fault comes only where the
+/// source's count of faults rose, a write fault only where the sink's did; want of memory is free,
+/// and comes before the first byte is written.
 pub fn surge_plain<R: AllocGlobal, S: Source, K: Sink, G: Gate>(
     rt: &R,
     words: &[&str],
@@ -42,12 +45,15 @@ pub fn surge_plain<R: AllocGlobal, S: Source, K: Sink, G: Gate>(
         (bytes : Items ℕ) × IsInput S.gives S.left src.old src.new bytes
         × Tells result (K.held out.old) (K.held out.new) (answer texts bytes) }
 
-    // Words that are refused, or whose command is not built yet: no byte is read.
+    // Words that have no input read, refused words and those of a drill: no byte is taken.
     ensures refused { let texts = map (λ w. w.now) words.now in
-        (are_read texts ≡ false) → (src.new ≡ src.old)
-        × ((result ≡ Status.Words) ⊎ (result ≡ Status.WriteFault) ⊎ (result ≡ Status.Memory))
-        × Tells result (K.held out.old) (K.held out.new) usage }
-    ensures words { (result ≡ Status.Words) → are_read (map (λ w. w.now) words.now) ≡ false }
+        (are_read texts ≡ false) → (src.new ≡ src.old) × (result ≢ Status.ReadFault)
+        × Tells result (K.held out.old) (K.held out.new) (unread texts) }
+
+    // The status of refused words comes for them, and for no others.
+    ensures words { (result ≡ Status.Words) → job_of (map (λ w. w.now) words.now) ≡ None }
+    ensures usage { (job_of (map (λ w. w.now) words.now) ≡ None) →
+        (result ≡ Status.Words) ⊎ (result ≡ Status.WriteFault) ⊎ (result ≡ Status.Memory) }
 
     // Where the source tells what it has left, the answer is that to all of it.
     ensures known { let texts = map (λ w. w.now) words.now in
@@ -70,19 +76,19 @@ pub fn surge_plain<R: AllocGlobal, S: Source, K: Sink, G: Gate>(
 {
     match read_words(rt.alloc(), words) {
         Ok(job) if reads_input(job.command) => answer_input(rt.alloc(), job, src, out, gate),
-        Ok(_) => ended(write_usage(out), Status::Words),
+        Ok(job) => answer_drill(rt.alloc(), job, out, gate),
         Err(WordsFault::Words) => ended(write_usage(out), Status::Words),
         Err(WordsFault::Memory) => Status::Memory,
     }
 }
 
-// Whether a command reads a case text; the others are not built yet.
+// Whether a command reads the input; a drill makes its case text from its number.
 fn reads_input(command: Command) -> bool
     ensures { result ≡ reads command }
 {
     match command {
-        Command::Check | Command::Mesh | Command::Rounds | Command::Upgrade => true,
-        Command::Run | Command::Drill => false,
+        Command::Check | Command::Mesh | Command::Rounds | Command::Run | Command::Upgrade => true,
+        Command::Drill => false,
     }
 }
 
@@ -112,6 +118,18 @@ fn answer_input<S: Source, K: Sink, G: Gate>(
         Ok(bytes) => answer_text(alloc, job, &bytes, out, gate),
         Err(ReadFault::Memory) => Status::Memory,
         Err(ReadFault::Failed) => Status::ReadFault,
+    }
+}
+
+// Writes the answer of a drill to the text that is made from its number.
+fn answer_drill<K: Sink, G: Gate>(alloc: Global, job: Job, out: &mut K, gate: &mut G) -> Status
+    requires { IsJob job }
+    ensures { HasAnswered K.held K.faults result out.old out.new
+        (answer_to job (verdict (drill_text job.number))) }
+{
+    match drill_text(alloc, job.number) {
+        Ok(text) => answer_text(alloc, job, &text, out, gate),
+        Err(AllocError) => Status::Memory,
     }
 }
 
@@ -163,8 +181,8 @@ fn answer_case<K: Sink, G: Gate>(
     match job.command {
         Command::Check => ended(write_accepted(out), Status::Done),
         Command::Mesh => cut(alloc, case, mesh, job.window, out),
-        Command::Rounds => rounds(alloc, case, mesh, job.window, out, gate),
-        Command::Run | Command::Drill => ended(write_usage(out), Status::Words),
+        Command::Rounds | Command::Run => rounds(alloc, case, mesh, job.window, out, gate),
+        Command::Drill => peak(alloc, case, mesh, job.window, out, gate),
         Command::Upgrade => ended(write_upgraded(case, out), Status::Done),
     }
 }
