@@ -1,8 +1,9 @@
 //! Rows of the region engine: which strands are begun and which regions are entered, in what order.
 use regionrun::{Gate, OpenStub};
 use std::alloc::{AllocError, Global};
-use std::cell::Cell;
+use std::sync::atomic::{AtomicU64, Ordering};
 use std::test::Fail;
+use std::thread::Threads;
 use surge_io::{MemorySink, MemorySource};
 use surge_top::{Status, surge_plain};
 
@@ -14,13 +15,13 @@ const SEVEN: &[u8] =
 const CHAIN: &[u8] =
     b"surge 1\nstep 0.1\nsteps 10\nreservoir A 0 100\njunction J 0 0 100\nreservoir B 0 100\npipe P A J 200 1 1000 0 0\npipe Q J B 4000 1 1000 0 0\n";
 
-// A gate that counts the strands that are begun in order, and the entries, and keeps the digits of the last
+// A gate for one thread. It counts the strands that are begun in order, and the entries, and keeps the digits of the last
 // entries: one more than the number of the strand.
 #[derive(Drop)]
 struct Counting {
     begun: u32,
-    entered: Cell<u64>,
-    order: Cell<u64>,
+    entered: AtomicU64,
+    order: AtomicU64,
 }
 
 impl Gate for Counting {
@@ -35,9 +36,11 @@ impl Gate for Counting {
 
     fn enter(&self, stub: OpenStub) -> OpenStub {
         let digit = (stub.strand as u64).saturating_add(1);
-        self.entered.set(self.entered.get().saturating_add(1));
+        let entered = self.entered.load(Ordering::SeqCst).saturating_add(1);
+        self.entered.store(entered, Ordering::SeqCst);
+        let order = self.order.load(Ordering::SeqCst).saturating_mul(10);
         self.order
-            .set(self.order.get().saturating_mul(10).saturating_add(digit));
+            .store(order.saturating_add(digit), Ordering::SeqCst);
         OpenStub {
             strand: stub.strand,
             entered: stub.entered + 1,
@@ -46,7 +49,7 @@ impl Gate for Counting {
 }
 
 // The gate after these words over this text, and the status.
-fn passed<R: AllocGlobal>(
+fn passed<R: Threads + AllocGlobal + Sync>(
     rt: &R,
     words: &[&str],
     text: &[u8],
@@ -56,8 +59,8 @@ fn passed<R: AllocGlobal>(
     let mut sink = MemorySink::make(alloc, 20_000, Vec::new(alloc))?;
     let mut gate = Counting {
         begun: 0,
-        entered: Cell::new(0),
-        order: Cell::new(0),
+        entered: AtomicU64::new(0),
+        order: AtomicU64::new(0),
     };
     let status = surge_plain(rt, words, &mut source, &mut sink, &mut gate);
     Ok((status, gate))
@@ -70,7 +73,7 @@ fn one_section_is_entered_before_its_nodes(rt: HostRuntime) -> Result<(), Fail> 
     let (status, gate) = passed(&rt, &["surge", "rounds", "--window", "4"], SEVEN)?;
     assert_eq!(&rt; status, Status::Done);
     assert_eq!(&rt; gate.begun, 3);
-    assert_eq!(&rt; gate.order.get(), 3_123_123);
+    assert_eq!(&rt; gate.order.load(Ordering::SeqCst), 3_123_123);
     Ok(())
 }
 
@@ -80,6 +83,6 @@ fn each_region_is_entered_once(rt: HostRuntime) -> Result<(), Fail> {
     let (status, gate) = passed(&rt, &["surge", "rounds"], CHAIN)?;
     assert_eq!(&rt; status, Status::Done);
     assert_eq!(&rt; gate.begun, 43);
-    assert_eq!(&rt; gate.entered.get(), 236);
+    assert_eq!(&rt; gate.entered.load(Ordering::SeqCst), 236);
     Ok(())
 }

@@ -15,6 +15,7 @@ use regionrun::OpenGate;
 use std::alloc::{AllocError, Global};
 use std::process::ExitCode;
 use std::rt::Env;
+use std::thread::Threads;
 use std::{env, io};
 use surge_io::{Sink, Source, StreamSink, StreamSource};
 use surge_top::{Status, surge_plain};
@@ -32,7 +33,7 @@ fn lend(alloc: Global, words: &[String]) -> Result<Vec<&str>, AllocError>
 
 // Runs the program with these words: the status is that of the top call, or want of memory for the
 // words, before which nothing is read and nothing written.
-fn run<R: AllocGlobal, S: Source, K: Sink>(
+fn run<R: Threads + AllocGlobal + Sync, S: Source, K: Sink>(
     rt: &R,
     words: &[String],
     src: &mut S,
@@ -86,7 +87,7 @@ fn exit(status: Status) -> ExitCode
 }
 
 // Runs the program over the standard streams: the exit number is one of the statuses.
-fn start<R: AllocGlobal + Env + Input + Print>(rt: &R) -> ExitCode
+fn start<R: Threads + AllocGlobal + Sync + Env + Input + Print>(rt: &R) -> ExitCode
     ensures { exit_status result ≤ 6 }
 {
     let mut source = StreamSource::over(rt.reader());

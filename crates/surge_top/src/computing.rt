@@ -1,5 +1,5 @@
 //! What `rounds`, `run` and a drill do with an accepted case: they compute the regions of all
-//! strands on one thread.
+//! strands, on as many threads as there is work for.
 ghost use Rattle.std.specs.Prelude.{◌≡◌, ◌<◌, ◌≤◌, [], ◌∷◌, IfOk, IfSome};
 ghost use Rattle.case_model.specs.Accepted.{IsAccepted};
 ghost use Rattle.case_model.specs.FirstFault.{first_fault};
@@ -16,17 +16,18 @@ use crate::status::Status;
 use crate::top::ended;
 use case_model::{Case, Mesh};
 use envelope::{Fold, folds_tell_rows, numbers_tell_places};
-use regionrun::{Gate, Survey, compute};
+use regionrun::{Gate, Survey, Workers, compute};
 use regions::{WIDEST_WINDOW, layout};
 use report::{sizes, write_range};
 use scheme::Physics;
-use std::alloc::{AllocError, Global};
+use std::alloc::AllocError;
+use std::thread::Threads;
 use surge_io::Sink;
 
 /// Writes the report of an accepted case, or its first fault, computed over windows of at most
 /// `wish` steps.
-pub(crate) fn rounds<K: Sink, G: Gate>(
-    alloc: Global,
+pub(crate) fn rounds<R: Threads + AllocGlobal + Sync, K: Sink, G: Gate + Sync>(
+    workers: &Workers<R>,
     case: &Case,
     mesh: &Mesh,
     wish: u64,
@@ -34,12 +35,14 @@ pub(crate) fn rounds<K: Sink, G: Gate>(
     gate: &mut G,
 ) -> Status
     requires accepted { IsAccepted case.now mesh.now }
+    requires least { 1 ≤ workers.now.count }
+    requires most { workers.now.count ≤ 64 }
     requires some { 1 ≤ wish }
     requires few { wish ≤ WIDEST_WINDOW }
     ensures { let text = rows_text case.now mesh.now in
         HasAnswered K.held K.faults result out.old out.new (run_of text case.now mesh.now) }
 {
-    match fold_rows(alloc, case, mesh, wish, gate) {
+    match fold_rows(workers, case, mesh, wish, gate) {
         Ok(fold) => write_answer(Printed::Report, case, mesh, &fold, out),
         Err(AllocError) => Status::Memory,
     }
@@ -47,8 +50,8 @@ pub(crate) fn rounds<K: Sink, G: Gate>(
 
 /// Writes the peak's line of an accepted case, or its first fault, computed over windows of at most
 /// `wish` steps.
-pub(crate) fn peak<K: Sink, G: Gate>(
-    alloc: Global,
+pub(crate) fn peak<R: Threads + AllocGlobal + Sync, K: Sink, G: Gate + Sync>(
+    workers: &Workers<R>,
     case: &Case,
     mesh: &Mesh,
     wish: u64,
@@ -56,32 +59,37 @@ pub(crate) fn peak<K: Sink, G: Gate>(
     gate: &mut G,
 ) -> Status
     requires accepted { IsAccepted case.now mesh.now }
+    requires least { 1 ≤ workers.now.count }
+    requires most { workers.now.count ≤ 64 }
     requires some { 1 ≤ wish }
     requires few { wish ≤ WIDEST_WINDOW }
     ensures { let text = peak_of_rows case.now mesh.now in
         HasAnswered K.held K.faults result out.old out.new (run_of text case.now mesh.now) }
 {
-    match fold_rows(alloc, case, mesh, wish, gate) {
+    match fold_rows(workers, case, mesh, wish, gate) {
         Ok(fold) => write_answer(Printed::Peak, case, mesh, &fold, out),
         Err(AllocError) => Status::Memory,
     }
 }
 
 // A fold over all places of an accepted case that was told every row. The error is want of memory.
-fn fold_rows<G: Gate>(
-    alloc: Global,
+fn fold_rows<R: Threads + AllocGlobal + Sync, G: Gate + Sync>(
+    workers: &Workers<R>,
     case: &Case,
     mesh: &Mesh,
     wish: u64,
     gate: &mut G,
 ) -> Result<Fold, AllocError>
     requires accepted { IsAccepted case.now mesh.now }
+    requires least { 1 ≤ workers.now.count }
+    requires most { workers.now.count ≤ 64 }
     requires some { 1 ≤ wish }
     requires few { wish ≤ WIDEST_WINDOW }
     ensures given { let probes = numbers_of mesh.now case.now in IfOk result (λ fold.
         IsFoldOf ((0, mesh.now.places) ∷ []) probes case.now.steps case.now.every fold) }
     ensures told { IfOk result (λ fold. Stands fold (rows_noted (meaning_of case.now mesh.now))) }
 {
+    let alloc = workers.rt.alloc();
     sizes(case, mesh);
     let law = Physics::over(case, mesh);
     let layout = layout(alloc, case, mesh, wish)?;
@@ -93,7 +101,7 @@ fn fold_rows<G: Gate>(
         layout: &layout,
         probes: &probes,
     };
-    compute(alloc, &law, &survey, gate, &mut fold)?;
+    compute(workers, &law, &survey, gate, &mut fold)?;
     Ok(fold)
 }
 

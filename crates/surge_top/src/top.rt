@@ -19,9 +19,10 @@ use case_writing::write_upgraded;
 use command_words::{Command, Job, WordsFault, read_words};
 use drill::drill_text;
 use netfile::{MOST_BYTES, read_case};
-use regionrun::Gate;
+use regionrun::{Gate, Workers};
 use report::{write_accepted, write_refusal, write_usage};
-use std::alloc::{AllocError, Global};
+use std::alloc::AllocError;
+use std::thread::Threads;
 use surge_io::{Failed, ReadFault, Sink, Source, whole};
 
 /// What the program does: judges its words, reads a case text from the source, and writes its
@@ -32,7 +33,7 @@ use surge_io::{Failed, ReadFault, Sink, Source, whole};
 /// past the limit. Refused words and a drill have none taken. A read fault comes only where the
 /// source's count of faults rose, a write fault only where the sink's did; want of memory is free,
 /// and comes before the first byte is written.
-pub fn surge_plain<R: AllocGlobal, S: Source, K: Sink, G: Gate>(
+pub fn surge_plain<R: Threads + AllocGlobal + Sync, S: Source, K: Sink, G: Gate + Sync>(
     rt: &R,
     words: &[&str],
     src: &mut S,
@@ -75,8 +76,8 @@ pub fn surge_plain<R: AllocGlobal, S: Source, K: Sink, G: Gate>(
         ⊎ ((result ≡ Status.Memory) ⊎ IsAnswered result) }
 {
     match read_words(rt.alloc(), words) {
-        Ok(job) if reads_input(job.command) => answer_input(rt.alloc(), job, src, out, gate),
-        Ok(job) => answer_drill(rt.alloc(), job, out, gate),
+        Ok(job) if reads_input(job.command) => answer_input(rt, job, src, out, gate),
+        Ok(job) => answer_drill(rt, job, out, gate),
         Err(WordsFault::Words) => ended(write_usage(out), Status::Words),
         Err(WordsFault::Memory) => Status::Memory,
     }
@@ -93,8 +94,8 @@ fn reads_input(command: Command) -> bool
 }
 
 // Writes the answer of a job to what is taken from the source.
-fn answer_input<S: Source, K: Sink, G: Gate>(
-    alloc: Global,
+fn answer_input<R: Threads + AllocGlobal + Sync, S: Source, K: Sink, G: Gate + Sync>(
+    rt: &R,
     job: Job,
     src: &mut S,
     out: &mut K,
@@ -114,21 +115,26 @@ fn answer_input<S: Source, K: Sink, G: Gate>(
     ensures read_later { S.faults src.old ≤ S.faults src.new }
     ensures write_later { K.faults out.old ≤ K.faults out.new }
 {
-    match whole(alloc, src, MOST_BYTES) {
-        Ok(bytes) => answer_text(alloc, job, &bytes, out, gate),
+    match whole(rt.alloc(), src, MOST_BYTES) {
+        Ok(bytes) => answer_text(rt, job, &bytes, out, gate),
         Err(ReadFault::Memory) => Status::Memory,
         Err(ReadFault::Failed) => Status::ReadFault,
     }
 }
 
 // Writes the answer of a drill to the text that is made from its number.
-fn answer_drill<K: Sink, G: Gate>(alloc: Global, job: Job, out: &mut K, gate: &mut G) -> Status
+fn answer_drill<R: Threads + AllocGlobal + Sync, K: Sink, G: Gate + Sync>(
+    rt: &R,
+    job: Job,
+    out: &mut K,
+    gate: &mut G,
+) -> Status
     requires { IsJob job }
     ensures { HasAnswered K.held K.faults result out.old out.new
         (answer_to job (verdict (drill_text job.number))) }
 {
-    match drill_text(alloc, job.number) {
-        Ok(text) => answer_text(alloc, job, &text, out, gate),
+    match drill_text(rt.alloc(), job.number) {
+        Ok(text) => answer_text(rt, job, &text, out, gate),
         Err(AllocError) => Status::Memory,
     }
 }
@@ -144,8 +150,8 @@ pub(crate) fn ended(written: Result<(), Failed>, done: Status) -> Status
 }
 
 // Writes the answer of a job to a text of any length.
-fn answer_text<K: Sink, G: Gate>(
-    alloc: Global,
+fn answer_text<R: Threads + AllocGlobal + Sync, K: Sink, G: Gate + Sync>(
+    rt: &R,
     job: Job,
     bytes: &[u8],
     out: &mut K,
@@ -155,8 +161,8 @@ fn answer_text<K: Sink, G: Gate>(
     ensures { HasAnswered K.held K.faults result out.old out.new
         (answer_to job (verdict bytes.now)) }
 {
-    match read_case(alloc, bytes) {
-        Ok((case, mesh)) => answer_case(alloc, job, &case, &mesh, out, gate),
+    match read_case(rt.alloc(), bytes) {
+        Ok((case, mesh)) => answer_case(rt, job, &case, &mesh, out, gate),
         Err(CaseFault::Refused { number, line }) => ended(
             write_refusal(number, line as u64, out),
             Status::Refused,
@@ -166,8 +172,8 @@ fn answer_text<K: Sink, G: Gate>(
 }
 
 // Writes the answer of a job to an accepted case.
-fn answer_case<K: Sink, G: Gate>(
-    alloc: Global,
+fn answer_case<R: Threads + AllocGlobal + Sync, K: Sink, G: Gate + Sync>(
+    rt: &R,
     job: Job,
     case: &Case,
     mesh: &Mesh,
@@ -178,11 +184,15 @@ fn answer_case<K: Sink, G: Gate>(
     requires accepted { IsAccepted case.now mesh.now }
     ensures { HasAnswered K.held K.faults result out.old out.new (answer_of job case.now mesh.now) }
 {
+    let workers = Workers {
+        rt,
+        count: job.workers,
+    };
     match job.command {
         Command::Check => ended(write_accepted(out), Status::Done),
-        Command::Mesh => cut(alloc, case, mesh, job.window, out),
-        Command::Rounds | Command::Run => rounds(alloc, case, mesh, job.window, out, gate),
-        Command::Drill => peak(alloc, case, mesh, job.window, out, gate),
+        Command::Mesh => cut(rt.alloc(), case, mesh, job.window, out),
+        Command::Rounds | Command::Run => rounds(&workers, case, mesh, job.window, out, gate),
+        Command::Drill => peak(&workers, case, mesh, job.window, out, gate),
         Command::Upgrade => ended(write_upgraded(case, out), Status::Done),
     }
 }

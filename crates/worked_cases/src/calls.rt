@@ -3,6 +3,7 @@ use case_lines::{fields_of, judge_line};
 use netfile::{read_case, write_case};
 use regionrun::OpenGate;
 use std::alloc::{AllocError, Global};
+use std::thread::Threads;
 use surge_io::{MemorySink, MemorySource};
 use surge_top::{Status, surge_plain};
 
@@ -15,7 +16,7 @@ pub(crate) struct Outside {
 }
 
 /// The status and the text that these words have over this text, which is read in pieces of 8 bytes.
-pub(crate) fn answer<R: AllocGlobal>(
+pub(crate) fn answer<R: Threads + AllocGlobal + Sync>(
     rt: &R,
     words: &[&str],
     text: &[u8],

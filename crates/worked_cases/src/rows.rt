@@ -3,6 +3,7 @@ use crate::answers::Answer;
 use crate::calls::{Outside, answer, rule, written};
 use crate::texts::{bytes_of, cut, number};
 use std::alloc::{AllocError, Global};
+use std::thread::Threads;
 
 /// What a line of the table said.
 pub(crate) enum Told {
@@ -41,7 +42,11 @@ impl Row {
     }
 
     /// Goes on by a line of the table.
-    pub(crate) fn go_on<R: AllocGlobal>(&mut self, rt: &R, line: &str) -> Result<Told, AllocError> {
+    pub(crate) fn go_on<R: Threads + AllocGlobal + Sync>(
+        &mut self,
+        rt: &R,
+        line: &str,
+    ) -> Result<Told, AllocError> {
         let (word, rest) = cut(line);
         match word {
             "" | "#" => Ok(Told::Nothing),
@@ -101,7 +106,11 @@ impl Row {
     }
 
     // Runs the words behind a number over the text: whether that is the exit number.
-    fn runs<R: AllocGlobal>(&mut self, rt: &R, rest: &str) -> Result<bool, AllocError> {
+    fn runs<R: Threads + AllocGlobal + Sync>(
+        &mut self,
+        rt: &R,
+        rest: &str,
+    ) -> Result<bool, AllocError> {
         let (wanted, rest) = cut(rest);
         let mut words = Vec::new(self.alloc);
         for word in rest.split_whitespace() {
