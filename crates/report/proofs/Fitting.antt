@@ -21,7 +21,7 @@ use Rattle.case_model.specs.declared.meshes.PipeMesh.{PipeMesh}
 use Rattle.std.proofs.lemmas.List.{length-map}
 use Rattle.case_model.specs.PlaceNumbers.{number_of}
 use Rattle.envelope.proofs.CellLaws.{within-first}
-use Rattle.envelope.specs.Folds.{IsFoldOf, spans_of}
+use Rattle.envelope.specs.Folds.{IsFoldOf, probes_of, spans_of}
 use Rattle.envelope.specs.RowFolds.{probe_numbers}
 use Rattle.envelope.specs.declared.folds.Fold.{Fold}
 use Rattle.report.specs.Reportable.{IsReportable}
@@ -83,7 +83,7 @@ reportable case mesh fold a small on given = record {
   sized = record { same_nodes = small.same_nodes; same_pipes = small.same_pipes; few_nodes = a.read.few_nodes; few_pipes = a.read.few_pipes };
   some_pipes = a.some;
   over = record { accepted = record { case = case; accepted = a }; whole = λ k h. within-first (spans_of fold) mesh.places k given.spans_are h };
-  same_probes = few_numbers case mesh fold.probes.items given.probes_are;
+  same_probes = few_numbers case mesh (probes_of fold) given.probes_are;
   same_steps = given.steps_are;
   same_every = given.every_is;
   probes_on = on;
