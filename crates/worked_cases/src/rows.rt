@@ -84,7 +84,7 @@ impl Row {
                 self.text.extend_from_slice(&self.answer.bytes)
             }
             _ => {
-                self.outside.room = number(rest).min(20_000) as usize;
+                self.outside.room = number(rest).min(400_000) as usize;
                 Ok(())
             }
         }
