@@ -3,9 +3,9 @@ ghost use Rattle.std.specs.Prelude.{◌≡◌, ℕ, ◌+◌, ◌^◌, ◌<◌, �
 ghost use Rattle.case_model.specs.Meaning.{Meaning, IsMeaning};
 ghost use Rattle.case_model.specs.Mesh.{reaches, ends_of};
 ghost use Rattle.case_model.specs.Range.{IsPoint, IsState};
-ghost use Rattle.case_model.specs.Runs.{run_of};
+ghost use Rattle.case_model.specs.Runs.{IsCalmRun};
 
-use crate::{NodeState, Point};
+use crate::{NodeState, Point, Spot};
 
 /// What the region engine knows of hydraulics: the mesh that the law fits and, from the points of
 /// one step, those of the next. Bad points are values here.
@@ -24,26 +24,29 @@ pub trait Law: Sync {
         ensures { result ≡ (meaning self.now).inner pipe place left.now own.now right.now };
 
     /// The points of a run of inner places of a pipe, from place `first` on, of the points one step
-    /// earlier: `before` has the point beside the first place, those of the run, and the point
-    /// beside the last.
-    fn inner_run(&self, pipe: u32, first: u32, before: &[Point], now: &mut [Point])
+    /// earlier, which have no cavity: `before` has the point beside the first place, those of the
+    /// run, and the point beside the last. It goes on from place to place while what is made has no
+    /// cavity and is in range, and may end sooner; it gives the count of places that it made.
+    fn calm_run(&self, pipe: u32, first: u32, before: &[Spot], now: &mut [Spot]) -> usize
         requires on_mesh { pipe < length (meaning self.now).mesh.pipes }
         requires after_first { 0 < first }
         requires before_last { first + length now.old ≤ reaches (meaning self.now).mesh pipe }
         requires fits { first + length now.old < 2 ^ 32 }
         requires each { length before.now ≡ length now.old + 2 }
-        requires before_in { All IsPoint before.now }
-        ensures { now.new ≡ run_of (meaning self.now) pipe first before.now (length now.old) }
+        ensures most { result ≤ length now.old }
+        ensures run { IsCalmRun (meaning self.now) pipe first before.now result now.old now.new }
     {
-        for (k, point) in now.iter_mut().enumerate() {
-            *point = self.inner(
-                pipe,
-                first + k as u32,
-                &before[k],
-                &before[k + 1],
-                &before[k + 2],
-            );
+        for k in 0..now.len() {
+            let left = before[k].point();
+            let own = before[k + 1].point();
+            let right = before[k + 2].point();
+            let next = self.inner(pipe, first + k as u32, &left, &own, &right);
+            match Spot::of(&next) {
+                Some(spot) => now[k] = spot,
+                None => return k,
+            }
         }
+        now.len()
     }
 
     /// The state of a node at `step`, of its own state and the points beside it on its pipes

@@ -16,6 +16,7 @@ mod points;
 mod ranges;
 mod refusals;
 mod rows;
+mod spots;
 mod states;
 mod words;
 
@@ -33,5 +34,6 @@ pub use points::Point;
 pub use ranges::{good_is_in_range, point_of, state_of};
 pub use refusals::refusals_are_least;
 pub use rows::rows_follow_the_law;
+pub use spots::Spot;
 pub use states::NodeState;
 pub use words::{from_words, to_words, words_tell_the_point};
