@@ -7,11 +7,11 @@ use Rattle.envelope.specs.Extremes.{first_of, either, AgreeAlong, HasExtreme, Is
 use Rattle.envelope.specs.declared.extremes.Extreme.{Extreme}
 use Rattle.envelope.proofs.Greatest.{same-greatest, same-smallest}
 
-head-either : (a b : Option Sample) → first_of (head_of a) (head_of b) ≡ head_of (first_of a b)
+pub head-either : (a b : Option Sample) → first_of (head_of a) (head_of b) ≡ head_of (first_of a b)
 head-either (Some x) b = refl
 head-either None b = refl
 
-volume-either : (a b : Option Sample) → first_of (volume_of a) (volume_of b) ≡ volume_of (first_of a b)
+pub volume-either : (a b : Option Sample) → first_of (volume_of a) (volume_of b) ≡ volume_of (first_of a b)
 volume-either (Some x) b = refl
 volume-either None b = refl
 

@@ -14,3 +14,6 @@ pub mod Numbered
 pub mod RowFolds
 pub mod Lined
 pub mod Told
+pub mod Calmly
+pub mod Settled
+pub mod SpotLines

@@ -75,16 +75,16 @@ abbrev pub part : ℕ → ℕ → ℕ → List Point → Noted
 part step first count points s k =
     if (s == step) && nat_le first k && nat_lt k (first + count) then Some (OfPoint (get_or points (k - first) Bad)) else None
 
-part-at : (step first count : ℕ) (points : List Point) (s k : ℕ) → s ≡ step → first ≤ k → k < first + count → part step first count points s k ≡ Some (OfPoint (get_or points (k - first) Bad))
+pub part-at : (step first count : ℕ) (points : List Point) (s k : ℕ) → s ≡ step → first ≤ k → k < first + count → part step first count points s k ≡ Some (OfPoint (get_or points (k - first) Bad))
 part-at step first count points s k e l h = rw (eq-eqb s step e, le-leb first k l, lt-ltb k (first + count) h) refl
 
-part-then : (step first count : ℕ) (points : List Point) (s k : ℕ) → s ≢ step → part step first count points s k ≡ None
+pub part-then : (step first count : ℕ) (points : List Point) (s k : ℕ) → s ≢ step → part step first count points s k ≡ None
 part-then step first count points s k e = rw (ne_eqb s step e) refl
 
-part-before : (step first count : ℕ) (points : List Point) (s k : ℕ) → k < first → part step first count points s k ≡ None
+pub part-before : (step first count : ℕ) (points : List Point) (s k : ℕ) → k < first → part step first count points s k ≡ None
 part-before step first count points s k h = rw (lt-leb first k h, and-false) refl
 
-part-past : (step first count : ℕ) (points : List Point) (s k : ℕ) → first + count ≤ k → part step first count points s k ≡ None
+pub part-past : (step first count : ℕ) (points : List Point) (s k : ℕ) → first + count ≤ k → part step first count points s k ≡ None
 part-past step first count points s k h = rw (le-ltb k (first + count) h, and-false) refl
 
 pub none-yet : (step first : ℕ) (points : List Point) (s k : ℕ) → part step first 0 points s k ≡ None

@@ -1,3 +1,4 @@
+pub mod Calm
 pub mod Cells
 pub mod Changes
 pub mod Extremes

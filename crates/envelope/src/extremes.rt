@@ -1,11 +1,14 @@
 //! The envelope of one place, and the cells that keep one each.
 ghost use Rattle.std.specs.Prelude.{◌≡◌, ◌≢◌, ℕ, ◌<◌, ◌≤◌, ◌≤ℤ◌, ◌<ℤ◌, true, false, Option, Some};
-ghost use Rattle.std.specs.Prelude.{None, length, replicate, slice_index_or, IfOk};
+ghost use Rattle.std.specs.Prelude.{None, length, replicate, slice_index_or, IfOk, ◌+◌, ◌⊎◌};
+ghost use Rattle.case_model.specs.Runs.{calm_at, calm_point};
 ghost use Rattle.case_model.specs.Samples.{Sample as Taken};
+ghost use Rattle.envelope.specs.Calm.{IsSettled, Joins};
 ghost use Rattle.envelope.specs.Extremes.{AgreeAlong, either, unmet, HasExtreme};
 
 use crate::Sample;
 use crate::peaks::{Peak, greater, is_over, is_under, lesser};
+use case_model::Spot;
 use std::alloc::{AllocError, Global};
 
 /// The envelope of a place up to a step: each number with the first step at which it stands.
@@ -100,6 +103,19 @@ impl Extreme {
         is_over(self.fullest(), other.fullest())
     }
 
+    // Whether a point without a cavity changes nothing at this step. An extreme of which nothing is
+    // taken has no head between its least and its greatest.
+    fn is_settled(&self, step: u64, spot: &Spot) -> bool
+        ensures { result ≡ true → IsSettled step spot.now.h self.now }
+    {
+        self.min <= spot.h
+            && spot.h <= self.max
+            && 0 <= self.volume
+            && self.max_step <= step
+            && self.min_step <= step
+            && self.volume_step <= step
+    }
+
     fn is_unmet(&self) -> bool
         ensures unmet { result ≡ true → self.now.max <ℤ self.now.min }
         ensures met { result ≡ false → self.now.min ≤ℤ self.now.max }
@@ -160,4 +176,47 @@ pub(crate) fn join_cell(cells: &mut Vec<Extreme>, cell: usize, other: &Extreme)
     if !cells[cell].covers(other) {
         cells[cell] = cells[cell].joined(other);
     }
+}
+
+/// Joins points without a cavity, taken at one step, to the cells from `first` on. Mostly nothing
+/// changes, and nothing is written.
+pub(crate) fn join_spots(cells: &mut [Extreme], first: usize, step: u64, spots: &[Spot])
+    requires { first + length spots.now ≤ length cells.old }
+    ensures here { (i : ℕ) → i < length spots.now →
+        Joins (slice_index_or cells.old (first + i) unmet)
+        (slice_index_or cells.new (first + i) unmet) step (calm_at spots.now i) }
+    ensures others { (c : ℕ) → (c < first) ⊎ (first + length spots.now ≤ c) →
+        slice_index_or cells.new c unmet ≡ slice_index_or cells.old c unmet }
+    ensures count { length cells.new ≡ length cells.old }
+{
+    for (i, spot) in spots.iter().enumerate() {
+        join_spot(cells, first + i, step, spot);
+    }
+}
+
+fn join_spot(cells: &mut [Extreme], cell: usize, step: u64, spot: &Spot)
+    requires { cell < length cells.old }
+    ensures here { Joins (slice_index_or cells.old cell unmet) (slice_index_or cells.new cell unmet)
+        step (calm_point spot.now) }
+    ensures others { (c : ℕ) → c ≢ cell →
+        slice_index_or cells.new c unmet ≡ slice_index_or cells.old c unmet }
+    ensures count { length cells.new ≡ length cells.old }
+{
+    if !cells[cell].is_settled(step, spot) {
+        join_new(cells, cell, step, spot);
+    }
+}
+
+// As `join_spot`, where something may change.
+#[cold]
+fn join_new(cells: &mut [Extreme], cell: usize, step: u64, spot: &Spot)
+    requires { cell < length cells.old }
+    ensures here { Joins (slice_index_or cells.old cell unmet) (slice_index_or cells.new cell unmet)
+        step (calm_point spot.now) }
+    ensures others { (c : ℕ) → c ≢ cell →
+        slice_index_or cells.new c unmet ≡ slice_index_or cells.old c unmet }
+    ensures count { length cells.new ≡ length cells.old }
+{
+    let sample = Sample::of_spot(spot);
+    cells[cell] = cells[cell].joined(&Extreme::of_one(step, &sample));
 }

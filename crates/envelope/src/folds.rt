@@ -5,11 +5,11 @@ ghost use Rattle.envelope.specs.Lines.{AreWithin, IsMarked, AreLines};
 ghost use Rattle.envelope.specs.Probes.{lines_of, marks_of, places_of};
 
 use crate::cells::{count_cells, find_cell};
-use crate::extremes::{blank_cells, join_cell};
+use crate::extremes::{blank_cells, join_cell, join_spots};
 use crate::faults::earlier;
-use crate::probes::{Probes, join_probed, keep_probed, make_probes, probed_sample};
+use crate::probes::{Probes, join_probed, keep_probed, keep_spots, make_probes, probed_sample};
 use crate::{Extreme, Sample};
-use case_model::{NodeState, Point};
+use case_model::{NodeState, Point, Spot};
 use std::alloc::{AllocError, Global};
 
 /// Of the places of some spans, over what was noted of them: the envelope of each, the samples of
@@ -32,8 +32,9 @@ pub struct Fold {
 }
 
 impl Fold {
-    ghost use Rattle.std.specs.Prelude.{◌≢◌, ◌*◌, ◌<◌, true, false, Option, Some, None, IfOk};
+    ghost use Rattle.std.specs.Prelude.{◌≢◌, ◌*◌, ◌<◌, true, false, Option, Some, None, IfOk, map};
     ghost use Rattle.std.specs.List.{filter};
+    ghost use Rattle.case_model.specs.Runs.{calm_point};
     ghost use Rattle.case_model.specs.Samples.{Sample as Taken};
     ghost use Rattle.envelope.specs.Cells.{is_within, first_of_span, end_of_span, AreInOneSpan};
     ghost use Rattle.envelope.specs.Extremes.{IsEnvelopeOf};
@@ -119,6 +120,21 @@ impl Fold {
     {
         if step <= self.steps && !points.is_empty() {
             self.note_within(step, first, points);
+        }
+    }
+
+    /// Takes in points without a cavity, of places that follow one another, of which `first` is the
+    /// first. A step past the last changes nothing.
+    pub fn note_calm(&mut self, step: u64, first: u64, spots: &[Spot])
+        requires { AreInOneSpan (spans_of self.old) first (length spots.now) }
+        ensures stands { (noted : Noted) → Stands self.old noted →
+            Agree noted (line_noted step first (map calm_point spots.now)) →
+            Stands self.new (union noted (line_noted step first (map calm_point spots.now))) }
+        ensures past { steps_of self.old < step → self.new ≡ self.old }
+        ensures same { IsSameFold self.old self.new }
+    {
+        if step <= self.steps && !spots.is_empty() {
+            self.note_spots(step, first, spots);
         }
     }
 
@@ -222,6 +238,24 @@ impl Fold {
         let cell = self.cell(first);
         for (i, point) in points.iter().enumerate() {
             self.note_in(cell + i, step, first + i as u64, point);
+        }
+    }
+
+    /// Takes in points without a cavity, one at least, at a step up to the last. What they change is
+    /// seldom more than nothing, so that the cells are looked at in a loop of its own.
+    fn note_spots(&mut self, step: u64, first: u64, spots: &[Spot])
+        requires step { step ≤ steps_of self.old }
+        requires some { 0 < length spots.now }
+        requires span { AreInOneSpan (spans_of self.old) first (length spots.now) }
+        ensures stands { (noted : Noted) → IsHeld self.old noted →
+            Agree noted (line_noted step first (map calm_point spots.now)) →
+            IsHeld self.new (union noted (line_noted step first (map calm_point spots.now))) }
+        ensures same { IsSameFold self.old self.new }
+    {
+        let cell = self.cell(first);
+        join_spots(&mut self.cells, cell, step, spots);
+        if self.probes.is_some() {
+            keep_spots(&mut self.probes, cell, step, self.every, spots);
         }
     }
 

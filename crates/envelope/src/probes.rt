@@ -1,7 +1,8 @@
 //! The probes among the places of a fold, with the samples that are kept of them.
 ghost use Rattle.std.specs.Prelude.{◌≡◌, ◌≢◌, ℕ, ◌+◌, ◌*◌, ◌/◌, ◌<◌, ◌≤◌, [], length, slice_index};
-ghost use Rattle.std.specs.Prelude.{slice_index_or, Option, Some, None, IfOk};
-ghost use Rattle.case_model.specs.Samples.{Sample as Taken};
+ghost use Rattle.std.specs.Prelude.{slice_index_or, Option, Some, None, IfOk, ◌^◌};
+ghost use Rattle.case_model.specs.Runs.{calm_at};
+ghost use Rattle.case_model.specs.Samples.{Sample as Taken, point_sample};
 ghost use Rattle.envelope.specs.Cells.{IsRising, bases_of, cell_of};
 ghost use Rattle.envelope.specs.Extremes.{AgreeAlong, either};
 ghost use Rattle.envelope.specs.Lines.{AreBlank, AreSameWidths, AreWithin, HasRoom, HasSamples};
@@ -11,7 +12,7 @@ ghost use Rattle.envelope.specs.Probes.{lines_of, marks_of, places_of};
 use crate::Sample;
 use crate::cells::find_cell;
 use crate::lines::{blank_lines, join_line, keep_sample, mark, sample_in};
-use case_model::List;
+use case_model::{List, Spot};
 use std::alloc::{AllocError, Global};
 
 /// The place number of each probe, which line of samples belongs to each cell, and these lines.
@@ -91,6 +92,37 @@ pub(crate) fn keep_probed(
         if let Some(line) = probes.line(cell) {
             keep_sample(&mut probes.lines, line, step, every, sample);
         }
+    }
+}
+
+/// Keeps points without a cavity, taken at one step, in the lines of the cells from `first` on.
+pub(crate) fn keep_spots(
+    probes: &mut Option<Box<Probes>>,
+    first: usize,
+    step: u64,
+    every: u64,
+    spots: &[Spot],
+)
+    requires some { 1 ≤ every }
+    requires own { (c d line : ℕ) → slice_index_or (marks_of probes.old) c None ≡ Some line →
+        slice_index_or (marks_of probes.old) d None ≡ Some line → c ≡ d }
+    requires room { (cell : ℕ) →
+        HasRoom (marks_of probes.old) (lines_of probes.old) cell (step / every) }
+    requires fits { first + length spots.now < 2 ^ 64 }
+    ensures places { places_of probes.new ≡ places_of probes.old }
+    ensures marks { marks_of probes.new ≡ marks_of probes.old }
+    ensures here { (i line last : ℕ) (f g : ℕ → Option Taken) → i < length spots.now →
+        AgreeAlong f g → slice_index_or (marks_of probes.old) (first + i) None ≡ Some line →
+        g step ≡ point_sample (calm_at spots.now i) → ((s : ℕ) → s ≢ step → g s ≡ None) →
+        HasSamples f last every (slice_index_or (lines_of probes.old) line []) →
+        HasSamples (either f g) last every (slice_index_or (lines_of probes.new) line []) }
+    ensures others { (l : ℕ) → ((i : ℕ) → i < length spots.now →
+        slice_index_or (marks_of probes.old) (first + i) None ≢ Some l) →
+        slice_index_or (lines_of probes.new) l [] ≡ slice_index_or (lines_of probes.old) l [] }
+    ensures same { AreSameWidths (lines_of probes.old) (lines_of probes.new) }
+{
+    for (i, spot) in spots.iter().enumerate() {
+        keep_probed(probes, first + i, step, every, &Sample::of_spot(spot));
     }
 }
 

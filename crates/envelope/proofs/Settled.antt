@@ -1,0 +1,106 @@
+-- A head between the extremes, and no volume, at a step that isn't earlier than theirs: nothing
+-- changes.
+use Rattle.std.proofs.Common.{◌≡◌, ◌≢◌, ◌∙◌, ℕ, ◌+◌, ◌<◌, ◌≤◌, ◌⊎◌, inl, inr, ℤ, refl, List, length, get_or, sym, ap, subst, Option, Some, None, arith}
+use Rattle.std.specs.Prelude.{◌≤ℤ◌, IfSome, pos}
+use Rattle.std.proofs.lemmas.Int.{ints}
+use Rattle.case_model.specs.declared.points.Point.{Point}
+use Rattle.case_model.specs.declared.points.Point.TheVariants.{Good, Bad}
+use Rattle.case_model.specs.declared.spots.Spot.{Spot}
+use Rattle.case_model.specs.Runs.{calm_at, calm_point}
+use Rattle.case_model.proofs.Running.{calm_spot}
+use Rattle.case_model.specs.Samples.{Sample, head_of, volume_of, IsGreatest, IsSmallest, point_sample}
+use Rattle.envelope.specs.Calm.{IsSettled, Joins}
+use Rattle.envelope.specs.Extremes.{first_of, either, AgreeAlong, HasExtreme, IsEnvelopeOf, unmet}
+use Rattle.envelope.specs.declared.extremes.Extreme.{Extreme}
+use Rattle.envelope.proofs.Greatest.{same-greatest, same-smallest}
+use Rattle.envelope.proofs.Joined.{head-either, volume-either, met}
+use Rattle.envelope.proofs.Sampled.{alone, decided}
+
+bounded : (a b : Option ℤ) (P : ℤ → Type 0) → IfSome a P → IfSome b P → IfSome (first_of a b) P
+bounded None b P h k = k
+bounded (Some x) b P h k = h
+
+one-bound : (b : Option ℤ) (y : ℤ) (P : ℤ → Type 0) → b ≡ Some y → P y → IfSome b P
+one-bound None y P e h = cc
+one-bound (Some z) y P e h = let q : y ≡ z = cc in subst P q h
+
+no-bound : (b : Option ℤ) (P : ℤ → Type 0) → b ≡ None → IfSome b P
+no-bound None P e = tt
+no-bound (Some z) P e = cc
+
+first-stands : (a b : Option ℤ) (x : ℤ) → a ≡ Some x → first_of a b ≡ Some x
+first-stands (Some y) b x e = e
+first-stands None b x e = cc
+
+alone-bound : (g : ℕ → Option ℤ) (step s : ℕ) (y : ℤ) (P : ℤ → Type 0) → g step ≡ Some y → ((u : ℕ) → u ≢ step → g u ≡ None) → P y → IfSome (g s) P
+alone-bound g step s y P e n h = elim (decided s step) [
+  | inl w ↦ one-bound (g s) y P (ap g w ∙ e) h
+  | inr w ↦ no-bound (g s) P (n s w)
+]
+
+still-greatest : (f g : ℕ → Option ℤ) (last : ℕ) (x y : ℤ) (s step : ℕ) → s ≤ step → y ≤ℤ x → g step ≡ Some y → ((u : ℕ) → u ≢ step → g u ≡ None) → IsGreatest f last x s → IsGreatest (either f g) last x s
+still-greatest f g last x y s step l o e n p = record {
+  within = p.within;
+  stands = first-stands (f s) (g s) x p.stands;
+  bound = λ u h. bounded (f u) (g u) (λ v. v ≤ℤ x) (p.bound u h) (alone-bound g step u y (λ v. v ≤ℤ x) e n o);
+  first = λ u h q. p.first u h (sym (alone (f u) (g u) (n u (λ w. omega arith))) ∙ q);
+}
+
+still-smallest : (f g : ℕ → Option ℤ) (last : ℕ) (x y : ℤ) (s step : ℕ) → s ≤ step → x ≤ℤ y → g step ≡ Some y → ((u : ℕ) → u ≢ step → g u ≡ None) → IsSmallest f last x s → IsSmallest (either f g) last x s
+still-smallest f g last x y s step l o e n p = record {
+  within = p.within;
+  stands = first-stands (f s) (g s) x p.stands;
+  bound = λ u h. bounded (f u) (g u) (λ v. x ≤ℤ v) (p.bound u h) (alone-bound g step u y (λ v. x ≤ℤ v) e n o);
+  first = λ u h q. p.first u h (sym (alone (f u) (g u) (n u (λ w. omega arith))) ∙ q);
+}
+
+pub settled-joins : (step : ℕ) (h q : ℤ) (e : Extreme) → IsSettled step h e → Joins e e step (Good h q q (pos 0))
+settled-joins step h q e k f g last w a gs gn p =
+    let low : e.min ≤ℤ h = k.low in
+    let high : h ≤ℤ e.max = k.high in
+    let m : e.min ≤ℤ e.max = omega (arith, ints) in
+    let v = p.filled m in
+    met (either f g) last e (record {
+      greatest_head = same-greatest (either (λ s. head_of (f s)) (λ s. head_of (g s))) (λ s. head_of (either f g s)) last e.max e.max_step (λ s l. head-either (f s) (g s))
+          (still-greatest (λ s. head_of (f s)) (λ s. head_of (g s)) last e.max h e.max_step step k.high_first high (ap head_of gs) (λ u n. ap head_of (gn u n)) v.greatest_head);
+      least_head = same-smallest (either (λ s. head_of (f s)) (λ s. head_of (g s))) (λ s. head_of (either f g s)) last e.min e.min_step (λ s l. head-either (f s) (g s))
+          (still-smallest (λ s. head_of (f s)) (λ s. head_of (g s)) last e.min h e.min_step step k.low_first low (ap head_of gs) (λ u n. ap head_of (gn u n)) v.least_head);
+      greatest_volume = same-greatest (either (λ s. volume_of (f s)) (λ s. volume_of (g s))) (λ s. volume_of (either f g s)) last e.volume e.volume_step (λ s l. volume-either (f s) (g s))
+          (still-greatest (λ s. volume_of (f s)) (λ s. volume_of (g s)) last e.volume (pos 0) e.volume_step step k.full_first k.full (ap volume_of gs) (λ u n. ap volume_of (gn u n)) v.greatest_volume);
+    })
+
+-- ---- the points of a run of cells, one more
+
+-- the first so many of these points are joined to the cells from `first` on
+pub record HaveJoined (spots : List Spot) (first count step : ℕ) (old new : List Extreme) : Type 0 where
+  pub here : (i : ℕ) → i < count → Joins (get_or old (first + i) unmet) (get_or new (first + i) unmet) step (calm_at spots i)
+  pub others : (c : ℕ) → (c < first) ⊎ (first + count ≤ c) → get_or new c unmet ≡ get_or old c unmet
+  pub count_is : length new ≡ length old
+
+pub none-joined : (spots : List Spot) (first step : ℕ) (cells : List Extreme) → HaveJoined spots first 0 step cells cells
+none-joined spots first step cells = record { here = λ i h. absurd (omega arith); others = λ c h. refl; count_is = refl }
+
+join-retaken : (a b c d : Extreme) (step : ℕ) (x y : Point) → a ≡ b → c ≡ d → x ≡ y → Joins b d step y → Joins a c step x
+join-retaken a b c d step x y p q r h = subst (λ v. Joins v c step x) (sym p) (subst (λ v. Joins b v step x) (sym q) (subst (λ v. Joins b d step v) (sym r) h))
+
+pub joined-more : (spots : List Spot) (first i step : ℕ) (old mid new : List Extreme) (spot : Spot) → i < length spots → spot ≡ get_or spots i spot
+    → HaveJoined spots first i step old mid
+    → Joins (get_or mid (first + i) unmet) (get_or new (first + i) unmet) step (calm_point spot)
+    → ((c : ℕ) → c ≢ first + i → get_or new c unmet ≡ get_or mid c unmet) → length new ≡ length mid
+    → HaveJoined spots first (i + 1) step old new
+joined-more spots first i step old mid new spot l e h j o n = record {
+  here = λ k b. elim (decided k i) [
+    | inl w ↦
+        subst (λ z. Joins (get_or old (first + z) unmet) (get_or new (first + z) unmet) step (calm_at spots z)) (sym w)
+        (join-retaken (get_or old (first + i) unmet) (get_or mid (first + i) unmet) (get_or new (first + i) unmet) (get_or new (first + i) unmet) step (calm_at spots i) (calm_point spot)
+        (sym (h.others (first + i) (inr (omega arith)))) refl (calm_spot spots i spot l ∙ ap calm_point (sym e)) j)
+    | inr w ↦
+        join-retaken (get_or old (first + k) unmet) (get_or old (first + k) unmet) (get_or new (first + k) unmet) (get_or mid (first + k) unmet) step (calm_at spots k) (calm_at spots k)
+        refl (o (first + k) (λ z. w (omega arith))) refl (h.here k (omega arith))
+  ];
+  others = λ c d. elim d [
+    | inl a ↦ o c (λ z. absurd (omega arith)) ∙ h.others c (inl a)
+    | inr a ↦ o c (λ z. absurd (omega arith)) ∙ h.others c (inr (omega arith))
+  ];
+  count_is = n ∙ h.count_is;
+}
