@@ -1,3 +1,5 @@
+pub mod Keeping
 pub mod Lining
 mod Making
 pub mod Raising
+pub mod Stepping

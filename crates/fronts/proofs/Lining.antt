@@ -1,17 +1,22 @@
 -- A run of places as the line of points that a fold is told.
-use Rattle.std.proofs.Common.{◌≡◌, ℕ, ◌+◌, ◌-◌, ◌<◌, ◌≤◌, ◌⊎◌, inl, inr, ◌∙◌, ap, sym, List, length, get_or, take, drop, refl, arith, Bool, true, false, cond, Some, None}
+use Rattle.std.proofs.Common.{◌≡◌, ℕ, ◌+◌, ◌-◌, ◌<◌, ◌≤◌, ◌⊎◌, inl, inr, ◌∙◌, ap, sym, List, map, length, get_or, take, drop, refl, arith, Bool, true, false, cond, Option, Some, None}
 use Rattle.std.specs.Prelude.{◌≢◌}
 use Rattle.std.proofs.Math.Bool.{and-false}
 use Rattle.std.proofs.lemmas.Bool.{eq-eqb, ne_eqb, lt-ltb, le-ltb, le-leb, lt-leb}
-use Rattle.std.proofs.lemmas.List.{get_or-drop, get_or-take, length-drop, length-take-le}
+use Rattle.std.proofs.lemmas.List.{length-drop, length-map, length-take-le}
 use Rattle.case_model.specs.declared.points.Point.{Point}
 use Rattle.case_model.specs.declared.points.Point.TheVariants.{Bad}
-use Rattle.case_model.specs.Runs.{point_at}
-use Rattle.envelope.specs.Notings.{Noting, Noted, line_noted, union, Agree}
+use Rattle.case_model.specs.declared.spots.Spot.{Spot}
+use Rattle.case_model.specs.Runs.{calm_at, calm_point}
+use Rattle.envelope.specs.Extremes.{first_of}
+use Rattle.envelope.specs.Notings.{Noting, Noted, line_noted, noted, only, union, Agree}
 use Rattle.envelope.specs.Notings.Noting.{OfPoint}
+use Rattle.envelope.proofs.Noted.{only-here, only-then, only-there}
 use Rattle.fronts.specs.declared.stretches.Stretch.{Stretch}
 use Rattle.fronts.specs.Noted.{run_noted}
-use Rattle.fronts.specs.Stretches.{is_even, kept, row_of}
+use Rattle.fronts.specs.Stretches.{count_of, is_even, kept, slot}
+use Rattle.fronts.proofs.Keeping.{kept-calm}
+use Rattle.fronts.proofs.Making.{part-at}
 
 -- a number is before these, behind them or among them
 pub where-is : (k low high : ℕ) → (k < low) ⊎ ((high ≤ k) ⊎ ((low ≤ k) × (k < high)))
@@ -53,12 +58,10 @@ run-in stretch step low high s k e h b =
     rw (eq-eqb s step e, le-leb (stretch.number + low) k h, lt-ltb k (stretch.number + high) b) refl
 
 -- the run is the line of the points of its places
-pub run-line : (stretch : Stretch) (xs : List Point) (step low high : ℕ) → xs ≡ row_of stretch (is_even step)
-    → low ≤ high → high ≤ length xs → (s k : ℕ)
-    → line_noted step (stretch.number + low) (take (high - low) (drop low xs)) s k ≡ run_noted stretch step low high s k
-run-line stretch xs step low high is l inside s k =
-    let part : List Point = take (high - low) (drop low xs) in
-    let n : length part ≡ high - low = length-take-le (high - low) (drop low xs) (omega (arith, length-drop low xs)) in
+pub run-line : (stretch : Stretch) (part : List Point) (step low high : ℕ) → low ≤ high → length part ≡ high - low
+    → ((j : ℕ) → j < high - low → get_or part j Bad ≡ kept stretch step (low + j)) → (s k : ℕ)
+    → line_noted step (stretch.number + low) part s k ≡ run_noted stretch step low high s k
+run-line stretch part step low high l n at s k =
     elim (is-now s step) [
       | inl e ↦ elim (where-is k (stretch.number + low) (stretch.number + high)) [
         | inl h ↦
@@ -73,9 +76,7 @@ run-line stretch xs step low high is l inside s k =
               let hi : k < stretch.number + high = b.1 in
               line-in (stretch.number + low) part step s k e lo (omega arith)
               ∙ ap (λ y. Some (OfPoint y))
-              (get_or-take (high - low) (drop low xs) (k - (stretch.number + low)) Bad (omega arith)
-              ∙ get_or-drop low xs (k - (stretch.number + low)) Bad ∙ ap (point_at xs) (omega arith)
-              ∙ ap (λ ys. point_at ys (k - stretch.number)) is)
+              (at (k - (stretch.number + low)) (omega arith) ∙ ap (kept stretch step) (omega arith))
               ∙ sym (run-in stretch step low high s k e lo hi)
         ]
       ]
@@ -96,3 +97,115 @@ same-union map one other e s k = rw (e s k) refl
 pub value-of : (b : Bool) (v y : Noting) → cond b (Some v) None ≡ Some y → y ≡ v
 value-of true v y e = cc
 value-of false v y e = cc
+
+-- ---- of a calm stretch
+
+pub spots-kept : (stretch : Stretch) (spots : List Spot) (step low high from n j : ℕ) → stretch.calm ≡ true → spots ≡ stretch.spots.items
+    → from ≡ slot (count_of stretch) (is_even step) 0 + low → n ≡ high - low → high ≤ count_of stretch → j < high - low
+    → get_or (map calm_point (take n (drop from spots))) j Bad ≡ kept stretch step (low + j)
+spots-kept stretch spots step low high from n j c e f m h b =
+    part-at spots from n j (omega arith)
+    ∙ ap (λ i. calm_at spots (i + j)) f
+    ∙ ap (calm_at spots) (same-slot (count_of stretch) (is_even step) low j)
+    ∙ ap (λ xs. calm_at xs (slot (count_of stretch) (is_even step) (low + j))) e
+    ∙ sym (kept-calm stretch (is_even step) (low + j) c (omega arith))
+  where
+    same-slot : (count : ℕ) (even : Bool) (low j : ℕ) → slot count even 0 + low + j ≡ slot count even (low + j)
+    same-slot count true low j = omega arith
+    same-slot count false low j = omega arith
+
+pub part-length : (spots : List Spot) (from n : ℕ) → from + n ≤ length spots → length (map calm_point (take n (drop from spots))) ≡ n
+part-length spots from n h = length-map (take n (drop from spots)) calm_point ∙ length-take-le n (drop from spots) (omega (arith, length-drop from spots))
+
+-- ---- place by place
+
+pub none-noted : (stretch : Stretch) (step low s k : ℕ) → run_noted stretch step low low s k ≡ None
+none-noted stretch step low s k = elim (where-is k (stretch.number + low) (stretch.number + low)) [
+  | inl h ↦ run-before stretch step low low s k (inr (inl h))
+  | inr a ↦ elim a [
+    | inl h ↦ run-before stretch step low low s k (inr (inr h))
+    | inr b ↦ let lo : stretch.number + low ≤ k = b.0 in let hi : k < stretch.number + low = b.1 in absurd (omega arith)
+  ]
+]
+
+lone : {X : Type 0} (a b : Option X) → b ≡ None → first_of a b ≡ a
+lone (Some x) b h = refl
+lone None b h = h
+
+next-place : (k next : ℕ) → (k < next) ⊎ ((k ≡ next) ⊎ (next < k))
+next-place k next = grind arith
+
+run-more : (stretch : Stretch) (step low place s k : ℕ) → low ≤ place
+    → first_of (run_noted stretch step low place s k) (only step (stretch.number + place) (OfPoint (kept stretch step place)) s k) ≡ run_noted stretch step low (place + 1) s k
+run-more stretch step low place s k l =
+    let x = OfPoint (kept stretch step place) in
+    let at = stretch.number + place in
+    elim (is-now s step) [
+      | inr e ↦
+          lone (run_noted stretch step low place s k) (only step at x s k) (only-then step at x s k e)
+          ∙ run-before stretch step low place s k (inl e) ∙ sym (run-before stretch step low (place + 1) s k (inl e))
+      | inl e ↦ elim (next-place k at) [
+        | inl b ↦
+            lone (run_noted stretch step low place s k) (only step at x s k) (only-there step at x s k (λ q. absurd (omega arith)))
+            ∙ elim (where-is k (stretch.number + low) at) [
+              | inl h ↦ run-before stretch step low place s k (inr (inl h)) ∙ sym (run-before stretch step low (place + 1) s k (inr (inl h)))
+              | inr a ↦ elim a [
+                | inl h ↦ absurd (omega arith)
+                | inr h ↦
+                    let lo : stretch.number + low ≤ k = h.0 in
+                    run-in stretch step low place s k e lo b ∙ sym (run-in stretch step low (place + 1) s k e lo (omega arith))
+              ]
+            ]
+        | inr a ↦ elim a [
+          | inl q ↦
+              ap (λ o. first_of o (only step at x s k)) (run-before stretch step low place s k (inr (inr (omega arith))))
+              ∙ ap (λ u. only step at x u k) e ∙ ap (only step at x step) q ∙ only-here step at x
+              ∙ ap (λ i. Some (OfPoint (kept stretch step i))) (omega arith)
+              ∙ sym (run-in stretch step low (place + 1) s k e (omega arith) (omega arith))
+          | inr b ↦
+              ap (λ o. first_of o (only step at x s k)) (run-before stretch step low place s k (inr (inr (omega arith))))
+              ∙ only-there step at x s k (λ q. absurd (omega arith))
+              ∙ sym (run-before stretch step low (place + 1) s k (inr (inr (omega arith))))
+        ]
+      ]
+    ]
+
+assoc : {X : Type 0} (a b c : Option X) → first_of (first_of a b) c ≡ first_of a (first_of b c)
+assoc None b c = refl
+assoc (Some x) b c = refl
+
+pub noted-more : (map : Noted) (stretch : Stretch) (step low place s k : ℕ) → low ≤ place
+    → noted (union map (run_noted stretch step low place)) step (stretch.number + place) (OfPoint (kept stretch step place)) s k
+    ≡ union map (run_noted stretch step low (place + 1)) s k
+noted-more map stretch step low place s k l =
+    assoc (map s k) (run_noted stretch step low place s k) (only step (stretch.number + place) (OfPoint (kept stretch step place)) s k)
+    ∙ ap (first_of (map s k)) (run-more stretch step low place s k l)
+
+pub noted-none : (map : Noted) (stretch : Stretch) (step low s k : ℕ) → map s k ≡ union map (run_noted stretch step low low) s k
+noted-none map stretch step low s k = sym (lone (map s k) (run_noted stretch step low low s k) (none-noted stretch step low s k))
+
+same-first : (a b : Option Noting) (x : Noting) → b ≡ None → first_of a b ≡ Some x → a ≡ Some x
+same-first None b x n e = sym n ∙ e
+same-first (Some y) b x n e = e
+
+-- what agrees with a run does so place by place
+pub run-agrees : (map : Noted) (stretch : Stretch) (step low place high : ℕ) → low ≤ place → place < high → Agree map (run_noted stretch step low high)
+    → Agree (union map (run_noted stretch step low place)) (only step (stretch.number + place) (OfPoint (kept stretch step place)))
+run-agrees map stretch step low place high l h g = λ s k a b p q.
+    let x = OfPoint (kept stretch step place) in
+    let at = stretch.number + place in
+    elim (is-now s step) [
+      | inr e ↦ let n = only-then step at x s k e in cc
+      | inl e ↦ elim (is-now k at) [
+        | inr f ↦ let n = only-there step at x s k f in cc
+        | inl f ↦
+            let m = same-first (map s k) (run_noted stretch step low place s k) a (run-before stretch step low place s k (inr (inr (omega arith)))) p in
+            let w = run-in stretch step low high s k e (omega arith) (omega arith) ∙ ap (λ i. Some (OfPoint (kept stretch step i))) (omega arith) in
+            let v = ap (λ u. only step at x u k) e ∙ ap (only step at x step) f ∙ only-here step at x in
+            let y = g s k a x m w in cc
+      ]
+    ]
+
+pub start-low : (count : ℕ) (even : Bool) → slot count even 0 ≤ count
+start-low count true = omega arith
+start-low count false = omega arith

@@ -1,16 +1,13 @@
--- A run of points that a law makes, written over those from a place on.
-use Rattle.std.proofs.Common.{◌≡◌, ℕ, ◌+◌, ◌-◌, ◌<◌, ◌≤◌, inl, inr, ◌∙◌, ap, sym, subst, List, ◌++◌, length, get_or, take, drop, arith}
-use Rattle.std.specs.List.{All}
-use Rattle.std.proofs.lemmas.List.{get_or-append_right, get_or-drop, get_or-take, get_or_append_left, length-drop, length-take-le}
-use Rattle.std.proofs.lemmas.List.Elements.{All-append, All-drop, All-take}
-use Rattle.std.proofs.lemmas.List.FromFn.{get_or-map-range_with_len, length-map-range_with_len}
+-- A run of spots that a law makes, written over those from a place on.
+use Rattle.std.proofs.Common.{◌≡◌, ℕ, ◌+◌, ◌-◌, ◌<◌, ◌≤◌, ◌⊎◌, inl, inr, ◌∙◌, ap, sym, subst, List, ◌++◌, length, map, get_or, take, drop, refl, Bool, true, false, arith}
+use Rattle.std.proofs.lemmas.List.{drop-map, get_or-append_right, get_or-drop, get_or-take, get_or_append_left, length-append, length-drop, length-map, length-take-le, map-append, take-map}
 use borrow.Rule.Slice.PartMut.{post_of, put_mid, same_len_mid}
 use Rattle.case_model.specs.declared.points.Point.{Point}
 use Rattle.case_model.specs.declared.points.Point.TheVariants.{Bad}
-use Rattle.case_model.specs.Meaning.{Meaning, IsMeaning}
-use Rattle.case_model.specs.Range.{IsPoint}
-use Rattle.case_model.specs.Runs.{point_at, run_of}
-use Rattle.fronts.specs.Bands.{AreMade}
+use Rattle.case_model.specs.declared.spots.Spot.{Spot}
+use Rattle.case_model.specs.Meaning.{Meaning}
+use Rattle.case_model.specs.Runs.{IsCalmRun, calm_at, calm_point}
+use Rattle.fronts.specs.Bands.{AreMade, AreRaised}
 use Rattle.fronts.specs.declared.stencil.Places.{Places}
 
 -- ---- an item of a list of which a part was written over
@@ -36,104 +33,103 @@ above a k xs ys i d h l e =
     ∙ get_or-drop a xs (k + (i - a - k)) d
     ∙ ap (λ j. get_or xs j d) (omega arith)
 
+calm-mid : (a k : ℕ) (xs ys : List Spot) → map calm_point (put_mid a k xs ys) ≡ put_mid a k (map calm_point xs) (map calm_point ys)
+calm-mid a k xs ys =
+    map-append calm_point (take a xs) (ys ++ post_of a k xs)
+    ∙ ap (λ l. l ++ map calm_point (ys ++ post_of a k xs)) (sym (take-map calm_point a xs))
+    ∙ ap (λ l. take a (map calm_point xs) ++ l) (map-append calm_point ys (post_of a k xs)
+    ∙ ap (λ l. map calm_point ys ++ l) (sym (drop-map calm_point k (drop a xs)) ∙ ap (drop k) (sym (drop-map calm_point a xs))))
+
+-- the points of a part of a list
+pub part-at : (spots : List Spot) (from count j : ℕ) → j < count
+    → calm_at (take count (drop from spots)) j ≡ calm_at spots (from + j)
+part-at spots from count j h =
+    ap (λ ps. get_or ps j Bad) (sym (take-map calm_point count (drop from spots)) ∙ ap (take count) (sym (drop-map calm_point from spots)))
+    ∙ get_or-take count (drop from (map calm_point spots)) j Bad h ∙ get_or-drop from (map calm_point spots) j Bad
+
 -- ---- a run
 
--- the points that the run is made of are those from the place before `low` on
-part-at : (earlier : List Point) (low count j : ℕ) → 0 < low → j < count
-    → point_at (take count (drop (low - 1) earlier)) j ≡ point_at earlier (low - 1 + j)
-part-at earlier low count j p h =
-    get_or-take count (drop (low - 1) earlier) j Bad h ∙ get_or-drop (low - 1) earlier j Bad
+over : (x n : ℕ) → (x < n) ⊎ (n ≤ x)
+over x n = grind arith
 
-pub run-length : (law : Meaning) (p first count : ℕ) (before run : List Point)
-    → run ≡ run_of law p first before count → length run ≡ count
-unfolding run_of
-run-length law p first count before run e = ap length e ∙ length-map-range_with_len _ 0 count
-
--- point number j of the run
-run-at : (law : Meaning) (p first low count j : ℕ) (earlier run : List Point)
-    → run ≡ run_of law p (first + low) (take (count + 2) (drop (low - 1) earlier)) count
-    → 0 < low → j < count
-    → point_at run j
-    ≡ law.inner p (first + (low + j)) (point_at earlier (low + j - 1)) (point_at earlier (low + j))
-    (point_at earlier (low + j + 1))
-unfolding run_of
-run-at law p first low count j earlier run e s h =
-    let part : List Point = take (count + 2) (drop (low - 1) earlier) in
-    let f : ℕ → Point = λ k. law.inner p (first + low + k) (point_at part k) (point_at part (k + 1)) (point_at part (k + 2)) in
-    ap (λ ys. point_at ys j) e
-    ∙ get_or-map-range_with_len f 0 count j j Bad h (omega arith)
-    ∙ ap (λ k. law.inner p k (point_at part j) (point_at part (j + 1)) (point_at part (j + 2))) (omega arith)
-    ∙ ap (λ a. law.inner p (first + (low + j)) a (point_at part (j + 1)) (point_at part (j + 2)))
-    (part-at earlier low (count + 2) j s (omega arith) ∙ ap (point_at earlier) (omega arith))
-    ∙ ap (λ b. law.inner p (first + (low + j)) (point_at earlier (low + j - 1)) b (point_at part (j + 2)))
-    (part-at earlier low (count + 2) (j + 1) s (omega arith) ∙ ap (point_at earlier) (omega arith))
-    ∙ ap (law.inner p (first + (low + j)) (point_at earlier (low + j - 1)) (point_at earlier (low + j)))
-    (part-at earlier low (count + 2) (j + 2) s (omega arith) ∙ ap (point_at earlier) (omega arith))
-
--- what is known of a run that was written
-pub record IsRun (law : Meaning) (places : Places) (count : ℕ) (earlier old run : List Point)
-    : Type 0 where
-  pub some : 0 < places.low
-  pub ends : places.low + count ≡ places.high
-  pub inside : places.high < length old
-  pub run_is : run ≡ run_of law places.pipe (places.first + places.low)
-      (take (count + 2) (drop (places.low - 1) earlier)) count
-
-pub run-made : (law : Meaning) (places : Places) (count : ℕ) (earlier old run : List Point)
-    → IsRun law places count earlier old run
-    → AreMade law places earlier old (put_mid places.low count old run)
-run-made law places count earlier old run h =
-    let size : length run ≡ count = run-length law places.pipe (places.first + places.low) count _ run h.run_is in
-    let low : 0 < places.low = h.some in
-    let ends : places.low + count ≡ places.high = h.ends in
-    let long : places.high < length old = h.inside in
+pub run-made : (law : Meaning) (places : Places) (a n done : ℕ) (earlier old run : List Spot)
+    → 0 < places.low → places.low < places.high → places.high < length earlier → length old ≡ length earlier
+    → a ≡ places.high + 1 - (places.low - 1) → n ≡ places.high - places.low → done ≤ n
+    → IsCalmRun law places.pipe (places.first + places.low) (take a (drop (places.low - 1) earlier)) done (take n (drop places.low old)) run
+    → AreMade law places done earlier old (put_mid places.low n old run)
+run-made law places a n done earlier old run s l b k ae ne m r =
+    let low = places.low in
+    let size : length run ≡ n = r.each ∙ length-take-le n (drop low old) (omega (arith, length-drop low old)) in
+    let long : length (map calm_point run) ≡ n = length-map run calm_point ∙ size in
+    let wide : length (map calm_point old) ≡ length old = length-map old calm_point in
+    let at = λ (x : ℕ). ap (λ ps. get_or ps x Bad) (calm-mid low n old run) in
+    let before = take a (drop (low - 1) earlier) in
     record {
-      each = same_len_mid places.low count old run
-          (size ∙ sym (length-take-le count (drop places.low old) (omega (arith, length-drop places.low old))));
-      inside = λ x a b.
-          within places.low count old run x Bad a (omega arith) (omega arith)
-          ∙ run-at law places.pipe places.first places.low count (x - places.low) earlier run h.run_is low (omega arith)
-          ∙ ap (λ y. law.inner places.pipe (places.first + y) (point_at earlier (y - 1)) (point_at earlier y) (point_at earlier (y + 1))) (omega arith);
-      outside = λ x a. elim a [
-        | inl b ↦ below places.low count old run x Bad b (omega arith)
-        | inr b ↦ above places.low count old run x Bad (omega arith) (omega arith) size
+      each = same_len_mid low n old run r.each;
+      inside = λ x u v.
+          let f = places.first in
+          at x ∙ within low n (map calm_point old) (map calm_point run) x Bad u (omega arith) (omega arith)
+          ∙ r.made (x - low) (omega arith)
+          ∙ ap (λ i. law.inner places.pipe i (calm_at before (x - low)) (calm_at before (x - low + 1)) (calm_at before (x - low + 2))) (omega arith)
+          ∙ ap (λ p. law.inner places.pipe (f + x) p (calm_at before (x - low + 1)) (calm_at before (x - low + 2)))
+          (part-at earlier (low - 1) a (x - low) (omega arith) ∙ ap (calm_at earlier) (omega arith))
+          ∙ ap (λ p. law.inner places.pipe (f + x) (calm_at earlier (x - 1)) p (calm_at before (x - low + 2)))
+          (part-at earlier (low - 1) a (x - low + 1) (omega arith) ∙ ap (calm_at earlier) (omega arith))
+          ∙ ap (law.inner places.pipe (f + x) (calm_at earlier (x - 1)) (calm_at earlier x))
+          (part-at earlier (low - 1) a (x - low + 2) (omega arith) ∙ ap (calm_at earlier) (omega arith));
+      outside = λ x d. elim d [
+        | inl u ↦ at x ∙ below low n (map calm_point old) (map calm_point run) x Bad u (omega arith)
+        | inr u ↦ elim (over x (low + n)) [
+          | inl v ↦
+              at x ∙ within low n (map calm_point old) (map calm_point run) x Bad (omega arith) (omega arith) (omega arith)
+              ∙ r.rest (x - low) (omega arith) ∙ part-at old low n (x - low) (omega arith) ∙ ap (calm_at old) (omega arith)
+          | inr v ↦ at x ∙ above low n (map calm_point old) (map calm_point run) x Bad v (omega arith) long
+        ]
       ];
     }
 
--- ---- all is in range
+-- ---- two rows in one list
 
-made-in : (law : Meaning) (p i : ℕ) (xs : List Point) (k : ℕ) → IsMeaning law → All IsPoint xs
-    → k + 2 < length xs → IsPoint (law.inner p i (point_at xs k) (point_at xs (k + 1)) (point_at xs (k + 2)))
-made-in law p i xs k m h l =
-    m.inner p i _ _ _ (h k Bad (omega arith)) (h (k + 1) Bad (omega arith)) (h (k + 2) Bad l)
+front : (a b : List Spot) (x : ℕ) → x < length a → calm_at (a ++ b) x ≡ calm_at a x
+front a b x h =
+    ap (λ ps. get_or ps x Bad) (map-append calm_point a b)
+    ∙ get_or_append_left (map calm_point a) (map calm_point b) Bad x (omega (arith, length-map a calm_point, h))
 
-pub run-in : (law : Meaning) (p first count : ℕ) (before run : List Point) → IsMeaning law
-    → All IsPoint before → length before ≡ count + 2 → run ≡ run_of law p first before count
-    → All IsPoint run
-unfolding run_of
-run-in law p first count before run m h l e j d b =
-    let size : length run ≡ count = run-length law p first count before run e in
-    let f : ℕ → Point = λ k. law.inner p (first + k) (point_at before k) (point_at before (k + 1)) (point_at before (k + 2)) in
-    subst IsPoint (sym (ap (λ ys. get_or ys j d) e ∙ get_or-map-range_with_len f 0 count j j d (omega arith) (omega arith)))
-    (made-in law p (first + j) before j m h (omega arith))
+back : (a b : List Spot) (n x : ℕ) → length a ≡ n → calm_at (a ++ b) (n + x) ≡ calm_at b x
+back a b n x e =
+    ap (λ ps. get_or ps (n + x) Bad) (map-append calm_point a b)
+    ∙ get_or-append_right (map calm_point a) (map calm_point b) n (n + x) Bad (length-map a calm_point ∙ e) (omega arith)
+    ∙ ap (calm_at b) (omega arith)
 
-pub part-in : (a k : ℕ) (xs ys : List Point) → All IsPoint xs → All IsPoint ys
-    → All IsPoint (put_mid a k xs ys)
-part-in a k xs ys h g =
-    All-append IsPoint (take a xs) (ys ++ post_of a k xs) (All-take IsPoint a xs h)
-    (All-append IsPoint ys (post_of a k xs) g (All-drop IsPoint k (drop a xs) (All-drop IsPoint a xs h)))
+pub raised-odds : (law : Meaning) (places : Places) (even : Bool) (done : ℕ) (spots evens odds new : List Spot)
+    → even ≡ true → spots ≡ evens ++ odds → length evens ≡ places.count → 0 < places.low → places.low + done ≤ places.high → places.high < places.count
+    → AreMade law places done evens odds new → AreRaised law places even done spots (evens ++ new)
+raised-odds law places even done spots evens odds new ev e n l h b m =
+    subst (λ z. AreRaised law places z done spots (evens ++ new)) (sym ev)
+    (subst (λ z. AreRaised law places true done z (evens ++ new)) (sym e) (record {
+      each = length-append evens new ∙ ap (λ z. length evens + z) m.each ∙ sym (length-append evens odds);
+      inside = λ x u v.
+          back evens new places.count x n ∙ m.inside x u v
+          ∙ ap (λ p. law.inner places.pipe (places.first + x) p (calm_at evens x) (calm_at evens (x + 1))) (sym (front evens odds (x - 1) (omega arith)))
+          ∙ ap (λ p. law.inner places.pipe (places.first + x) (calm_at (evens ++ odds) (x - 1)) p (calm_at evens (x + 1))) (sym (front evens odds x (omega arith)))
+          ∙ ap (law.inner places.pipe (places.first + x) (calm_at (evens ++ odds) (x - 1)) (calm_at (evens ++ odds) x)) (sym (front evens odds (x + 1) (omega arith)));
+      outside = λ x c d. back evens new places.count x n ∙ m.outside x d ∙ sym (back evens odds places.count x n);
+      before = λ x c. front evens new x (omega arith) ∙ sym (front evens odds x (omega arith));
+    }))
 
-pub told-run : (law : Meaning) (places : Places) (earlier old run : List Point) (a n : ℕ)
-    → 0 < places.low → places.low < places.high → places.high < length old
-    → a ≡ places.high + 1 - (places.low - 1) → n ≡ places.high - places.low
-    → run ≡ run_of law places.pipe (places.first + places.low) (take a (drop (places.low - 1) earlier)) n
-    → IsRun law places (places.high - places.low) earlier old run
-told-run law places earlier old run a n s l b i j e =
-    record {
-      some = s;
-      ends = omega arith;
-      inside = b;
-      run_is = e
-          ∙ ap (λ z. run_of law places.pipe (places.first + places.low) (take z (drop (places.low - 1) earlier)) n) (omega arith)
-          ∙ ap (run_of law places.pipe (places.first + places.low) (take (places.high - places.low + 2) (drop (places.low - 1) earlier))) j;
-    }
+pub raised-evens : (law : Meaning) (places : Places) (even : Bool) (done : ℕ) (spots evens odds new : List Spot)
+    → even ≡ false → spots ≡ evens ++ odds → length evens ≡ places.count → 0 < places.low → places.low + done ≤ places.high → places.high < places.count
+    → AreMade law places done odds evens new → AreRaised law places even done spots (new ++ odds)
+raised-evens law places even done spots evens odds new ev e n l h b m =
+    let k : length new ≡ places.count = m.each ∙ n in
+    subst (λ z. AreRaised law places z done spots (new ++ odds)) (sym ev)
+    (subst (λ z. AreRaised law places false done z (new ++ odds)) (sym e) (record {
+      each = length-append new odds ∙ ap (λ z. z + length odds) m.each ∙ sym (length-append evens odds);
+      inside = λ x u v.
+          front new odds x (omega arith) ∙ m.inside x u v
+          ∙ ap (λ p. law.inner places.pipe (places.first + x) p (calm_at odds x) (calm_at odds (x + 1))) (sym (back evens odds places.count (x - 1) n))
+          ∙ ap (λ p. law.inner places.pipe (places.first + x) (calm_at (evens ++ odds) (places.count + (x - 1))) p (calm_at odds (x + 1))) (sym (back evens odds places.count x n))
+          ∙ ap (law.inner places.pipe (places.first + x) (calm_at (evens ++ odds) (places.count + (x - 1))) (calm_at (evens ++ odds) (places.count + x))) (sym (back evens odds places.count (x + 1) n));
+      outside = λ x c d. front new odds x (omega arith) ∙ m.outside x d ∙ sym (front evens odds x (omega arith));
+      before = λ x c. back new odds places.count x k ∙ sym (back evens odds places.count x n);
+    }))

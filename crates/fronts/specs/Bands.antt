@@ -1,13 +1,14 @@
 -- Bands of a stretch: the places whose distance is in an interval, which one step of the law
 -- raises together.
-use Rattle.std.specs.Prelude.{◌≡◌, ℕ, ◌+◌, ◌-◌, ◌<◌, ◌≤◌, ◌⊎◌, ◌^◌, List, length, min}
+use Rattle.std.specs.Prelude.{◌≡◌, ℕ, ◌+◌, ◌-◌, ◌<◌, ◌≤◌, ◌⊎◌, ◌^◌, List, length, min, Bool, not}
 use Rattle.case_model.specs.declared.points.Point.{Point}
+use Rattle.case_model.specs.declared.spots.Spot.{Spot}
 use Rattle.case_model.specs.Meaning.{Meaning}
 use Rattle.case_model.specs.Mesh.{reaches}
-use Rattle.case_model.specs.Runs.{point_at}
+use Rattle.case_model.specs.Runs.{calm_at}
 use Rattle.fronts.specs.declared.stencil.Places.{Places}
 use Rattle.fronts.specs.declared.stretches.Stretch.{Stretch}
-use Rattle.fronts.specs.Stretches.{AreSamePlaces, count_of, is_even, kept}
+use Rattle.fronts.specs.Stretches.{AreSamePlaces, count_of, is_even, kept, slot}
 
 -- the distance of place x of 0 to n from the nearer end
 abbrev pub from_ends : ℕ → ℕ → ℕ
@@ -43,11 +44,29 @@ pub record IsOnMesh (law : Meaning) (stretch : Stretch) : Type 0 where
   pub fits : stretch.first + count_of stretch ≤ reaches law.mesh stretch.pipe + 1
   pub small : reaches law.mesh stretch.pipe < 2 ^ 32
 
--- the points of these places are made of the points one step earlier, and the other points stay
-pub record AreMade (law : Meaning) (places : Places) (earlier old new : List Point) : Type 0 where
+-- of these places the first `done` are made of the points one step earlier, and the others stay
+pub record AreMade (law : Meaning) (places : Places) (done : ℕ) (earlier old new : List Spot)
+    : Type 0 where
   pub each : length new ≡ length old
-  pub inside : (x : ℕ) → places.low ≤ x → x < places.high
-      → point_at new x
+  pub inside : (x : ℕ) → places.low ≤ x → x < places.low + done
+      → calm_at new x
       ≡ law.inner places.pipe (places.first + x)
-      (point_at earlier (x - 1)) (point_at earlier x) (point_at earlier (x + 1))
-  pub outside : (x : ℕ) → (x < places.low) ⊎ (places.high ≤ x) → point_at new x ≡ point_at old x
+      (calm_at earlier (x - 1)) (calm_at earlier x) (calm_at earlier (x + 1))
+  pub outside : (x : ℕ) → (x < places.low) ⊎ (places.low + done ≤ x)
+      → calm_at new x ≡ calm_at old x
+
+-- the same where the points of the even steps and those of the odd ones are in one list
+pub record AreRaised (law : Meaning) (places : Places) (even : Bool) (done : ℕ)
+    (old new : List Spot) : Type 0 where
+  pub each : length new ≡ length old
+  pub inside : (x : ℕ) → places.low ≤ x → x < places.low + done
+      → calm_at new (slot places.count (not even) x)
+      ≡ law.inner places.pipe (places.first + x)
+      (calm_at old (slot places.count even (x - 1)))
+      (calm_at old (slot places.count even x))
+      (calm_at old (slot places.count even (x + 1)))
+  pub outside : (x : ℕ) → x < places.count → (x < places.low) ⊎ (places.low + done ≤ x)
+      → calm_at new (slot places.count (not even) x)
+      ≡ calm_at old (slot places.count (not even) x)
+  pub before : (x : ℕ) → x < places.count
+      → calm_at new (slot places.count even x) ≡ calm_at old (slot places.count even x)

@@ -1,4 +1,5 @@
 pub mod Bands
+pub mod Cavities
 pub mod Fronts
 pub mod Noted
 pub mod PointProps

@@ -3,7 +3,9 @@
 //! step, and how points are noted.
 #![tactic(auto)]
 
+mod cavities;
 mod noting;
+mod parts;
 mod ranges;
 mod stencil;
 mod stretches;

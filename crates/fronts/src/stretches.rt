@@ -1,10 +1,9 @@
 //! A stretch of places of a pipe, and the points that it keeps of them.
-ghost use Rattle.std.specs.Prelude.{◌≡◌, length};
-ghost use Rattle.std.specs.List.{All};
-ghost use Rattle.case_model.specs.Range.{IsPoint};
-ghost use Rattle.fronts.specs.PointProps.{points-prop};
+ghost use Rattle.std.specs.Prelude.{◌≡◌, ◌*◌, length};
 
-use case_model::Point;
+use crate::cavities::Cavity;
+use crate::parts::{Parts, apart, are_none, clear};
+use case_model::{Point, Spot};
 use std::alloc::{AllocError, Global};
 
 /// Places of a pipe that follow one another, each with two points: the last ones of an even and
@@ -18,21 +17,31 @@ pub struct Stretch {
     pub first: u32,
     /// The place number of that place.
     pub number: u64,
-    pub(crate) even: Vec<Point>,
-    pub(crate) odd: Vec<Point>,
-    ghost sizes: { length odd.items ≡ length even.items },
-    ghost evens_in: { All IsPoint even.items } by { points-prop even.items },
-    ghost odds_in: { All IsPoint odd.items } by { points-prop odd.items },
+    pub(crate) count: usize,
+    // Those of the even steps, and behind them those of the odd ones.
+    pub(crate) spots: Vec<Spot>,
+    // In the same order. They tell nothing while the stretch is calm: then no point has a cavity,
+    // and none is Bad.
+    pub(crate) cavities: Vec<Cavity>,
+    pub(crate) calm: bool,
+    ghost spots_each: { length spots.items ≡ 2 * count },
+    ghost cavities_each: { length cavities.items ≡ 2 * count },
 }
 
 impl Stretch {
-    ghost use Rattle.std.specs.Prelude.{ℕ, ◌<◌, IfOk};
+    ghost use Rattle.std.specs.Prelude.{ℕ, ◌<◌, ◌==◌, true, false, Bool, IfOk};
     ghost use Rattle.case_model.specs.Meaning.{Meaning};
+    ghost use Rattle.case_model.specs.Range.{IsPoint};
+    ghost use Rattle.case_model.specs.Runs.{calm_point};
+    ghost use Rattle.fronts.specs.Cavities.{volume_and_flow, with_cavity};
     ghost use Rattle.fronts.specs.Fronts.{Holds, Puts, spot};
-    ghost use Rattle.fronts.specs.Stretches.{count_of, is_even, kept, row_of, IsPut, IsStretchOf};
+    ghost use Rattle.fronts.specs.Stretches.{AreSameKept, count_of, is_even, kept, kept_in};
+    ghost use Rattle.fronts.specs.Stretches.{point_in, slot as slot_of, IsPut, IsPutIn, IsSet};
+    ghost use Rattle.fronts.specs.Stretches.{IsStretchOf};
 
-    /// A stretch of so many places, each Bad. The error is want of memory.
-    #[tactic(auto, unfolding(crate::specs::Stretches::count_of, crate::specs::Stretches::row_of))]
+    /// A stretch of so many places. What it keeps of them is to be put. The error is want of
+    /// memory.
+    #[tactic(auto, unfolding(crate::specs::Stretches::count_of))]
     pub fn make(
         alloc: Global,
         pipe: u32,
@@ -42,12 +51,17 @@ impl Stretch {
     ) -> Result<Stretch, AllocError>
         ensures { IfOk result (IsStretchOf pipe first number count) }
     {
+        let Some(both) = count.checked_mul(2) else {
+            return Err(AllocError);
+        };
         Ok(Stretch {
             pipe,
             first,
             number,
-            even: vec![in alloc; Point::Bad; count]?,
-            odd: vec![in alloc; Point::Bad; count]?,
+            count,
+            spots: vec![in alloc; Spot { h: 0, q: 0 }; both]?,
+            cavities: vec![in alloc; Cavity::none(); both]?,
+            calm: true,
         })
     }
 
@@ -56,7 +70,7 @@ impl Stretch {
     pub fn count(&self) -> usize
         ensures { result ≡ count_of self.now }
     {
-        self.even.len()
+        self.count
     }
 
     /// The point of a place that is kept for the parity of a step.
@@ -65,17 +79,47 @@ impl Stretch {
         ensures point { result ≡ kept self.now step place }
         ensures in_range { IsPoint result }
     {
-        self.row(step)[place]
+        self.point_of(step % 2 == 0, place)
     }
 
-    // The points that are kept for the parity of a step.
-    #[tactic(auto, unfolding(crate::specs::Stretches::count_of, crate::specs::Stretches::row_of))]
-    pub(crate) fn row(&self, step: u64) -> &[Point]
-        ensures row { result.now ≡ row_of self.now (is_even step) }
-        ensures count { length result.now ≡ count_of self.now }
-        ensures in_range { All IsPoint result.now }
+    // The point of a place that is kept for the even steps, or for the odd ones.
+    #[tactic(auto, unfolding(crate::specs::Stretches::count_of, crate::specs::Stretches::kept_in))]
+    pub(crate) fn point_of(&self, even: bool, place: usize) -> Point
+        requires { place < count_of self.now }
+        ensures point { result ≡ kept_in self.now even place }
+        ensures in_range { IsPoint result }
     {
-        if step % 2 == 0 { &self.even } else { &self.odd }
+        self.read(self.slot(even, place))
+    }
+
+    // Where it is kept.
+    #[tactic(auto, unfolding(crate::specs::Stretches::count_of))]
+    pub(crate) fn slot(&self, even: bool, place: usize) -> usize
+        requires { place < count_of self.now }
+        ensures value { result ≡ slot_of (count_of self.now) even place }
+        ensures inside { result < 2 * count_of self.now }
+    {
+        if even { place } else { self.count + place }
+    }
+
+    // Where the first of the points for the even steps is kept, or of those for the odd ones.
+    #[tactic(auto, unfolding(crate::specs::Stretches::count_of))]
+    pub(crate) fn start(&self, even: bool) -> usize
+        ensures { result ≡ slot_of (count_of self.now) even 0 }
+    {
+        if even { 0 } else { self.count }
+    }
+
+    #[tactic(auto, unfolding(crate::specs::Stretches::count_of, crate::specs::Stretches::point_in))]
+    fn read(&self, slot: usize) -> Point
+        requires { slot < 2 * count_of self.now }
+        ensures point { result ≡ point_in self.now slot }
+        ensures in_range { IsPoint result }
+    {
+        if self.calm {
+            return self.spots[slot].point();
+        }
+        self.cavities[slot].with(&self.spots[slot])
     }
 
     /// Keeps a point of a place for the parity of a step.
@@ -88,20 +132,97 @@ impl Stretch {
             point ≡ spot law self.old step place →
             Holds law since front self.old → Holds law sooner later self.new }
     {
-        self.write(step, place, point);
+        self.put_of(step % 2 == 0, place, point);
     }
 
-    // As `put`.
-    #[tactic(auto, unfolding(crate::specs::Stretches::count_of, crate::specs::Stretches::row_of))]
-    fn write(&mut self, step: u64, place: usize, point: Point)
+    // Keeps a point of a place for the even steps, or for the odd ones.
+    pub(crate) fn put_of(&mut self, even: bool, place: usize, point: Point)
         requires inside { place < count_of self.old }
         requires in_range { IsPoint point }
-        ensures { IsPut step place point self.old self.new }
+        ensures { IsPutIn even place point self.old self.new }
     {
-        if step % 2 == 0 {
-            self.even[place] = point;
+        let slot = self.slot(even, place);
+        match Spot::of(&point) {
+            Some(spot) => self.set_spot(slot, spot),
+            None => self.set_other(slot, &point),
+        }
+    }
+
+    fn set_spot(&mut self, slot: usize, spot: Spot)
+        requires { slot < 2 * count_of self.old }
+        ensures { IsSet slot (calm_point spot) self.old self.new }
+    {
+        if self.calm {
+            self.set_calm(slot, spot);
         } else {
-            self.odd[place] = point;
+            self.set_parts(
+                slot,
+                Parts {
+                    spot,
+                    cavity: Cavity::none(),
+                },
+            );
+        }
+    }
+
+    // A point that has a cavity, or is Bad: the stretch isn't calm any more.
+    #[cold]
+    fn set_other(&mut self, slot: usize, point: &Point)
+        requires inside { slot < 2 * count_of self.old }
+        requires in_range { IsPoint point.now }
+        ensures { IsSet slot point.now self.old self.new }
+    {
+        self.make_wild();
+        self.set_parts(slot, apart(point));
+    }
+
+    // From now on the stretch may have cavities and Bad points.
+    fn make_wild(&mut self)
+        ensures kept { AreSameKept self.old self.new }
+        ensures wild { self.new.calm ≡ false }
+    {
+        if self.calm {
+            self.stir();
+        }
+    }
+
+    #[tactic(auto, unfolding(crate::specs::Stretches::count_of))]
+    fn set_calm(&mut self, slot: usize, spot: Spot)
+        requires inside { slot < 2 * count_of self.old }
+        requires calm { self.old.calm ≡ true }
+        ensures { IsSet slot (calm_point spot) self.old self.new }
+    {
+        self.spots[slot] = spot;
+    }
+
+    #[tactic(auto, unfolding(crate::specs::Stretches::count_of))]
+    fn set_parts(&mut self, slot: usize, parts: Parts)
+        requires inside { slot < 2 * count_of self.old }
+        requires wild { self.old.calm ≡ false }
+        ensures { IsSet slot
+            (with_cavity (calm_point parts.spot) (volume_and_flow parts.cavity))
+            self.old self.new }
+    {
+        self.spots[slot] = parts.spot;
+        self.cavities[slot] = parts.cavity;
+    }
+
+    // Tells of each point of a calm stretch that it has no cavity, so that one may come.
+    fn stir(&mut self)
+        requires { self.old.calm ≡ true }
+        ensures kept { AreSameKept self.old self.new }
+        ensures wild { self.new.calm ≡ false }
+    {
+        clear(&mut self.cavities);
+        self.calm = false;
+    }
+
+    // Looks whether a stretch has become calm: no point has a cavity any more, and none is Bad.
+    pub(crate) fn settle(&mut self)
+        ensures { AreSameKept self.old self.new }
+    {
+        if !self.calm && are_none(&self.cavities) {
+            self.calm = true;
         }
     }
 }

@@ -1,23 +1,26 @@
-use Rattle.std.proofs.Common.{ap, length, arith}
-use Rattle.fronts.specs.Stretches.{count_of}
+use Rattle.std.proofs.Common.{◌≡◌, ◌⊎◌, ◌+◌, ◌≤◌, inl, inr, refl, arith}
+use Rattle.fronts.proofs.Stepping.{stepped-end, stepped-more, stepped-none}
 use Rattle.fronts.proofs.stretches.Stretch.raise_run.Goals as goal
 
-pub step_places-requires-clause-high : goal.step_places-requires-clause-high
-unfolding count_of
-step_places-requires-clause-high g c κs within = omega (arith, c.requires.before_last, c.args.self.now.sizes)
+pub loop-place-init : goal.loop-place-init
+loop-place-init g c = record {
+  stepped = stepped-none (g.L.Law.meaning c.args.law.now) c.args.step c.args.low c.args.self.now;
+  from = omega arith;
+  to = inr refl;
+}
 
-pub step_places-requires-clause-fits : goal.step_places-requires-clause-fits
-unfolding count_of
-step_places-requires-clause-fits g c κs within = omega (arith, c.requires.on_mesh.fits, c.args.self.now.sizes)
+pub loop-place-preserved : goal.loop-place-preserved
+loop-place-preserved g c =
+    let i = c.loop-place.invariant in
+    let r = c.raise_next-place.ensures in
+    record {
+      stepped = stepped-more (g.L.Law.meaning c.args.law.now) c.args.step c.args.low c.loop-place.place (c.loop-place.place + c.raise_next-place.result) c.args.self.now c.loop-place.self c.raise_next-place.new.self
+          i.from (omega arith) i.stepped r.stepped;
+      from = omega (arith, i.from);
+      to = inl (omega (arith, r.most, c.loop-place-test.true));
+    }
 
-pub step_places-requires-else-step-eq0-clause-high : goal.step_places-requires-else-step-eq0-clause-high
-unfolding count_of
-step_places-requires-else-step-eq0-clause-high g c κs within =
-    let e = ap length c.deref-else-step-eq0.ensures.value in
-    omega (arith, c.requires.before_last, c.args.self.now.sizes, e)
-
-pub step_places-requires-else-step-eq0-clause-fits : goal.step_places-requires-else-step-eq0-clause-fits
-unfolding count_of
-step_places-requires-else-step-eq0-clause-fits g c κs within =
-    let e = ap length c.deref-else-step-eq0.ensures.value in
-    omega (arith, c.requires.on_mesh.fits, c.args.self.now.sizes, e)
+pub returns : goal.returns
+returns g c =
+    let i = c.loop-place.invariant in
+    stepped-end (g.L.Law.meaning c.args.law.now) c.args.step c.args.low c.loop-place.place c.args.high c.args.self.now c.loop-place.self (omega (arith, c.loop-place-test.false)) i.to i.stepped
