@@ -1,20 +1,23 @@
 -- Runs of places without a cavity: signs of flows, values of characteristics, and where they meet.
-use Rattle.std.proofs.Common.{ℕ, suc, ◌*◌, ◌<◌, ◌≤◌, ◌≡◌, ap, sym, subst, refl, ◌∙◌, arith, ℤ, pos, negsuc, neg_ℤ, ◌+ℤ◌, ◌-ℤ◌, ◌≤ℤ◌, ◌<ℤ◌, unsigned_abs, Option, Some, true, w64, of_z, to_z, FitsSigned}
+use Rattle.std.proofs.Common.{ℕ, suc, ◌*◌, ◌<◌, ◌≤◌, ◌≡◌, ap, sym, subst, refl, ◌∙◌, arith, ℤ, pos, negsuc, neg_ℤ, ◌+ℤ◌, ◌-ℤ◌, ◌≤ℤ◌, ◌<ℤ◌, unsigned_abs, Option, Some, None, IfSome, true, w64, of_z, to_z, FitsSigned}
 use Rattle.std.specs.Prelude.{int_le}
-use Rattle.std.proofs.lemmas.Int.{ints, fits_signed_from_abs, to_z-of_z}
+use Rattle.std.specs.Int.{w128}
+use Rattle.std.proofs.lemmas.Int.{ints, fits_signed_from_abs, to_z-of_z, to_z_pos}
 use Rattle.std.proofs.Math.IntN.{+ℤ_comm}
 use Rattle.fixed_num.specs.Rounding.{half_up, rnd}
 use Rattle.fixed_num.proofs.Between.{rnd_up, rnd_down}
 use Rattle.case_model.specs.declared.cases.Friction.TheVariants.{Explicit}
 use Rattle.case_model.specs.declared.points.Point.{Point}
 use Rattle.case_model.specs.declared.points.Point.TheVariants.{Good}
+use Rattle.case_model.specs.declared.spots.Spot.{Spot}
 use Rattle.case_model.specs.declared.meshes.Arrival.{Arrival}
 use Rattle.case_model.specs.declared.meshes.CavityRule.{CavityRule}
 use Rattle.case_model.specs.Range.{point_of, IsPoint}
 use Rattle.charline.specs.Characteristics.{impedance_head, friction_head, driven_flow, arrive_plus, arrive_minus, in_reach}
 use Rattle.charline.specs.Interior.{inner_point, meet, meet_if, meeting_head, meeting_flow, growth}
-use Rattle.charline.specs.Runs.{IsPlus, IsMinus, IsRise, IsMeeting, IsCalmPoint, rise_size}
+use Rattle.charline.specs.Runs.{IsPlus, IsMinus, IsRise, IsDriven, IsCalmSpot, rise_size}
 use Rattle.charline.proofs.Factors.{meet_halfway, flow_by_twice}
+use Rattle.charline.proofs.Sizes.{fits_wide}
 
 pub rise_up : (b r : ℕ) (q size : ℤ) → pos 0 ≤ℤ q → size ≡ rise_size b r (unsigned_abs q) → size ≡ impedance_head (pos b) q -ℤ friction_head (pos r) q
 unfolding impedance_head friction_head rnd
@@ -71,57 +74,52 @@ minus_is b r h qu qd v rise k s t value = record {
   value = minus_value b r h qu qd v rise k s value;
 }
 
--- the same of a point and numbers as they stand in words
+-- the same of numbers as they stand in words
 double : (z : ℤ) → unsigned_abs z ≤ 2000000000000000000 → FitsSigned w64 z
 double z h = fits_signed_from_abs w64 z (omega arith)
 
-pub plus_from : (b r : ℕ) (from : Point) (h qu qd v rise : ℤ) → from ≡ Good h qu qd v → IsPoint from → b ≤ 10000000000000 → unsigned_abs rise ≤ 1000000000000000000
-    → IsRise b r (to_z w64 (of_z w64 qd)) rise → IsPlus b r from (to_z w64 (of_z w64 (to_z w64 (of_z w64 h) +ℤ to_z w64 (of_z w64 rise))))
-plus_from b r from h qu qd v rise e p k t value =
-    let p2 : IsPoint (Good h qu qd v) = subst IsPoint e p in
-    let s : unsigned_abs h ≤ 100000000000 = p2.head in
-    let l : unsigned_abs qd ≤ 1000000000000 = p2.down in
-    let fq = double qd (omega arith) in
-    let own : IsRise b r qd rise = subst (λ (x : ℤ). IsRise b r x rise) (to_z-of_z w64 qd fq) value in
+pub plus_from : (b r : ℕ) (h q rise : ℤ) → unsigned_abs h ≤ 100000000000 → unsigned_abs q ≤ 1000000000000 → b ≤ 10000000000000 → unsigned_abs rise ≤ 1000000000000000000
+    → IsRise b r (to_z w64 (of_z w64 q)) rise → IsPlus b r (Good h q q (pos 0)) (to_z w64 (of_z w64 (to_z w64 (of_z w64 h) +ℤ to_z w64 (of_z w64 rise))))
+plus_from b r h q rise s l k t value =
+    let own : IsRise b r q rise = subst (λ (x : ℤ). IsRise b r x rise) (to_z-of_z w64 q (double q (omega arith))) value in
     let fh = double h (omega arith) in
     let fr = double rise (omega arith) in
     let fs = double (h +ℤ rise) (omega (arith, ints)) in
-    rw (e, to_z-of_z w64 h fh, to_z-of_z w64 rise fr, to_z-of_z w64 (h +ℤ rise) fs) (plus_is b r h qu qd v rise k s t own)
+    rw (to_z-of_z w64 h fh, to_z-of_z w64 rise fr, to_z-of_z w64 (h +ℤ rise) fs) (plus_is b r h q q (pos 0) rise k s t own)
 
-pub minus_from : (b r : ℕ) (from : Point) (h qu qd v rise : ℤ) → from ≡ Good h qu qd v → IsPoint from → b ≤ 10000000000000 → unsigned_abs rise ≤ 1000000000000000000
-    → IsRise b r (to_z w64 (of_z w64 qu)) rise → IsMinus b r from (to_z w64 (of_z w64 (to_z w64 (of_z w64 h) -ℤ to_z w64 (of_z w64 rise))))
-minus_from b r from h qu qd v rise e p k t value =
-    let p2 : IsPoint (Good h qu qd v) = subst IsPoint e p in
-    let s : unsigned_abs h ≤ 100000000000 = p2.head in
-    let l : unsigned_abs qu ≤ 1000000000000 = p2.up in
-    let fq = double qu (omega arith) in
-    let own : IsRise b r qu rise = subst (λ (x : ℤ). IsRise b r x rise) (to_z-of_z w64 qu fq) value in
+pub minus_from : (b r : ℕ) (h q rise : ℤ) → unsigned_abs h ≤ 100000000000 → unsigned_abs q ≤ 1000000000000 → b ≤ 10000000000000 → unsigned_abs rise ≤ 1000000000000000000
+    → IsRise b r (to_z w64 (of_z w64 q)) rise → IsMinus b r (Good h q q (pos 0)) (to_z w64 (of_z w64 (to_z w64 (of_z w64 h) -ℤ to_z w64 (of_z w64 rise))))
+minus_from b r h q rise s l k t value =
+    let own : IsRise b r q rise = subst (λ (x : ℤ). IsRise b r x rise) (to_z-of_z w64 q (double q (omega arith))) value in
     let fh = double h (omega arith) in
     let fr = double rise (omega arith) in
     let fs = double (h -ℤ rise) (omega (arith, ints)) in
-    rw (e, to_z-of_z w64 h fh, to_z-of_z w64 rise fr, to_z-of_z w64 (h -ℤ rise) fs) (minus_is b r h qu qd v rise k s t own)
+    rw (to_z-of_z w64 h fh, to_z-of_z w64 rise fr, to_z-of_z w64 (h -ℤ rise) fs) (minus_is b r h q q (pos 0) rise k s t own)
 
 -- both values are in range where their half and their difference are
-near_half : (x y h : ℤ) → unsigned_abs (x -ℤ y) ≤ 9000000000 → unsigned_abs (x +ℤ y) ≤ 2 * unsigned_abs h → unsigned_abs h ≤ 100000000000 → unsigned_abs x ≤ 10000000000000
+near_half : (x y h : ℤ) → unsigned_abs (x -ℤ y) ≤ 4611686018 → unsigned_abs (x +ℤ y) ≤ 2 * unsigned_abs h → unsigned_abs h ≤ 100000000000 → unsigned_abs x ≤ 10000000000000
 near_half x y h d s k = omega (arith, ints)
 
 swapped : (x y : ℤ) → unsigned_abs (y -ℤ x) ≡ unsigned_abs (x -ℤ y)
 swapped x y = omega (arith, ints)
 
-between : (top h : ℤ) → unsigned_abs top ≤ 100000000000 → top ≤ℤ h → h ≤ℤ pos 100000000000 → unsigned_abs h ≤ 100000000000
-between top h k l m = omega (arith, ints)
+-- a head from `top` on and a flow, both in range, at which two values of characteristics meet that
+-- are in range and have twice this impedance between them
+pub record IsMeeting (b : ℕ) (top plus minus head flow : ℤ) : Type 0 where
+  plus_in : unsigned_abs plus ≤ 10000000000000
+  minus_in : unsigned_abs minus ≤ 10000000000000
+  halfway : head ≡ rnd (plus +ℤ minus) (pos 2)
+  driven : flow ≡ driven_flow (plus -ℤ minus) (pos (2 * b))
+  above : top ≤ℤ head
+  head_in : unsigned_abs head ≤ 100000000000
+  flow_in : unsigned_abs flow ≤ 1000000000000
 
-pub meets : (b : ℕ) (top x y h q : ℤ) → unsigned_abs top ≤ 100000000000 → unsigned_abs (x -ℤ y) ≤ 9000000000
-    → h ≡ rnd (x +ℤ y) (pos 2) → unsigned_abs (x +ℤ y) ≤ 2 * unsigned_abs h → top ≤ℤ h → h ≤ℤ pos 100000000000
-    → q ≡ driven_flow (x -ℤ y) (pos (2 * b)) → unsigned_abs q ≤ 1000000000000
-    → IsMeeting b top x y (to_z w64 (of_z w64 h)) (to_z w64 (of_z w64 q))
-meets b top x y h q t d e s above most f l =
-    let k = between top h t above most in
-    let fh = double h (omega arith) in
-    let fq = double q (omega arith) in
-    let n : unsigned_abs (y -ℤ x) ≤ 9000000000 = rw (swapped x y) d in
+meets : (b : ℕ) (top x y h q : ℤ) → unsigned_abs (x -ℤ y) ≤ 4611686018 → h ≡ rnd (x +ℤ y) (pos 2) → unsigned_abs (x +ℤ y) ≤ 2 * unsigned_abs h
+    → top ≤ℤ h → unsigned_abs h ≤ 100000000000 → q ≡ driven_flow (x -ℤ y) (pos (2 * b)) → unsigned_abs q ≤ 1000000000000 → IsMeeting b top x y h q
+meets b top x y h q d e s above k f l =
+    let n : unsigned_abs (y -ℤ x) ≤ 4611686018 = rw (swapped x y) d in
     let m : unsigned_abs (y +ℤ x) ≤ 2 * unsigned_abs h = rw (+ℤ_comm y x) s in
-    rw (to_z-of_z w64 h fh, to_z-of_z w64 q fq) (record {
+    record {
       plus_in = near_half x y h d s k;
       minus_in = near_half y x h n m k;
       halfway = e;
@@ -129,25 +127,7 @@ meets b top x y h q t d e s above most f l =
       above = above;
       head_in = k;
       flow_in = l;
-    })
-
-pub meets_in : (b most size : ℕ) (top x y h q : ℤ) → unsigned_abs top ≤ 100000000000 → most ≤ 9000000000 → unsigned_abs x ≤ 2000000000000000000 → unsigned_abs y ≤ 2000000000000000000
-    → size ≡ unsigned_abs (to_z w64 (of_z w64 (to_z w64 (of_z w64 x) -ℤ to_z w64 (of_z w64 y)))) → size ≤ most
-    → h ≡ rnd (to_z w64 (of_z w64 (to_z w64 (of_z w64 x) +ℤ to_z w64 (of_z w64 y)))) (pos 2)
-    → unsigned_abs (to_z w64 (of_z w64 (to_z w64 (of_z w64 x) +ℤ to_z w64 (of_z w64 y)))) ≤ 2 * unsigned_abs h
-    → top ≤ℤ h → h ≤ℤ pos 100000000000
-    → q ≡ driven_flow (to_z w64 (of_z w64 (to_z w64 (of_z w64 x) -ℤ to_z w64 (of_z w64 y)))) (pos (2 * b)) → unsigned_abs q ≤ 1000000000000
-    → IsMeeting b top x y (to_z w64 (of_z w64 h)) (to_z w64 (of_z w64 q))
-meets_in b most size top x y h q t n fx fy d e g s above below f l =
-    let ex = to_z-of_z w64 x (double x fx) in
-    let ey = to_z-of_z w64 y (double y fy) in
-    let es = to_z-of_z w64 (x +ℤ y) (fits_signed_from_abs w64 (x +ℤ y) (omega (arith, ints))) in
-    let ed = to_z-of_z w64 (x -ℤ y) (fits_signed_from_abs w64 (x -ℤ y) (omega (arith, ints))) in
-    let d2 : size ≡ unsigned_abs (x -ℤ y) = rw (ex, ey, ed) at d in
-    let g2 : h ≡ rnd (x +ℤ y) (pos 2) = rw (ex, ey, es) at g in
-    let s2 : unsigned_abs (x +ℤ y) ≤ 2 * unsigned_abs h = rw (ex, ey, es) at s in
-    let f2 : q ≡ driven_flow (x -ℤ y) (pos (2 * b)) = rw (ex, ey, ed) at f in
-    meets b top x y h q t (omega arith) g2 s2 above below f2 l
+    }
 
 -- where two characteristics of the pipe's impedance meet
 met_head : (b : ℕ) (plus minus : ℤ) → 0 < b → meeting_head (record { c = plus; b = pos b }) (record { c = minus; b = pos b }) ≡ rnd (plus +ℤ minus) (pos 2)
@@ -167,24 +147,54 @@ meet_calm rule plus minus h q g e f above k l =
     let over : int_le rule.hv h ≡ true = grind (arith, ints) in
     rw (e, f, over) (in_range h q k l)
 
-pub calm_law : (b r : ℕ) (top plus minus h q h0 qu qd : ℤ) → 0 < b → IsMeeting b top plus minus h q → IsCalmPoint b r top plus (Good h0 qu qd (pos 0)) minus (Good h q q (pos 0))
+pub calm_law : (b r : ℕ) (top plus minus : ℤ) (next : Spot) → 0 < b → IsMeeting b top plus minus next.h next.q → IsCalmSpot b r top plus minus next
 unfolding inner_point
-calm_law b r top plus minus h q h0 qu qd some m = λ rule left right below ip im.
+calm_law b r top plus minus next some m = λ rule left right own below ip im.
     let one : Arrival = record { c = plus; b = pos b } in
     let two : Arrival = record { c = minus; b = pos b } in
-    let hv : rule.hv ≤ℤ h = omega (arith, ints, m.above) in
-    sym (ap (λ (a : Option Arrival). meet_if rule a (arrive_minus Explicit (pos b) (pos r) right) (pos 0) (growth qu qd)) (ip.value m.plus_in)
-    ∙ ap (λ (a : Option Arrival). meet_if rule (Some one) a (pos 0) (growth qu qd)) (im.value m.minus_in)
-    ∙ meet_calm rule one two h q (growth qu qd) (met_head b plus minus some ∙ sym m.halfway) (met_flow b plus minus ∙ sym m.driven) hv m.head_in m.flow_in)
+    let hv : rule.hv ≤ℤ next.h = omega (arith, ints, m.above) in
+    sym (ap (λ (a : Option Arrival). meet_if rule a (arrive_minus Explicit (pos b) (pos r) right) (pos 0) (growth own.q own.q)) (ip.value m.plus_in)
+    ∙ ap (λ (a : Option Arrival). meet_if rule (Some one) a (pos 0) (growth own.q own.q)) (im.value m.minus_in)
+    ∙ meet_calm rule one two next.h next.q (growth own.q own.q) (met_head b plus minus some ∙ sym m.halfway) (met_flow b plus minus ∙ sym m.driven) hv m.head_in m.flow_in)
 
-pub calm_from : (b r : ℕ) (top plus minus h q : ℤ) (own : Point) (h0 qu qd v : ℤ) → own ≡ Good h0 qu qd v → v ≡ pos 0 → 0 < b
-    → unsigned_abs plus ≤ 2000000000000000000 → unsigned_abs minus ≤ 2000000000000000000
-    → IsMeeting b top (to_z w64 (of_z w64 plus)) (to_z w64 (of_z w64 minus)) h q
-    → IsCalmPoint b r top plus own minus (Good (to_z w64 (of_z w64 h)) (to_z w64 (of_z w64 q)) (to_z w64 (of_z w64 q)) (pos 0))
-calm_from b r top plus minus h q own h0 qu qd v e z some p n m =
-    let hin : unsigned_abs h ≤ 100000000000 = m.head_in in
-    let qin : unsigned_abs q ≤ 1000000000000 = m.flow_in in
-    let fh = double h (omega arith) in
-    let fq = double q (omega arith) in
-    let m2 : IsMeeting b top plus minus h q = rw (to_z-of_z w64 plus (double plus p), to_z-of_z w64 minus (double minus n)) at m in
-    rw (e, z, to_z-of_z w64 h fh, to_z-of_z w64 q fq) (calm_law b r top plus minus h q h0 qu qd some m2)
+calm_told : (b r : ℕ) (top most x y h : ℤ) (result : Option Spot) → 0 < b → unsigned_abs most ≤ 4611686018 → h ≡ rnd (x +ℤ y) (pos 2) → unsigned_abs (x +ℤ y) ≤ 2 * unsigned_abs h
+    → IfSome result (IsDriven b top most h (x -ℤ y)) → IfSome result (IsCalmSpot b r top x y)
+calm_told b r top most x y h None some few e s told = tt
+calm_told b r top most x y h (Some next) some few e s told =
+    let near = told.near in
+    let above : top ≤ℤ next.h = rw told.at told.above in
+    let s2 : unsigned_abs (x +ℤ y) ≤ 2 * unsigned_abs next.h = rw told.at s in
+    calm_law b r top x y next some (meets b top x y next.h next.q (omega arith) (told.at ∙ e) s2 above next.head told.flow next.flow)
+
+pub calm_from : (b r : ℕ) (top most x y h : ℤ) (result : Option Spot) → 0 < b → unsigned_abs most ≤ 4611686018 → unsigned_abs x ≤ 2000000000000000000 → unsigned_abs y ≤ 2000000000000000000
+    → FitsSigned w64 h → h ≡ rnd (to_z w64 (of_z w64 (to_z w64 (of_z w64 x) +ℤ to_z w64 (of_z w64 y)))) (pos 2)
+    → unsigned_abs (to_z w64 (of_z w64 (to_z w64 (of_z w64 x) +ℤ to_z w64 (of_z w64 y)))) ≤ 2 * unsigned_abs h
+    → IfSome result (IsDriven b top most (to_z w64 (of_z w64 h)) (to_z w64 (of_z w64 (to_z w64 (of_z w64 x) -ℤ to_z w64 (of_z w64 y)))))
+    → IfSome result (IsCalmSpot b r top x y)
+calm_from b r top most x y h result some few fx fy fh g s told =
+    let ex = to_z-of_z w64 x (double x fx) in
+    let ey = to_z-of_z w64 y (double y fy) in
+    let es = to_z-of_z w64 (x +ℤ y) (fits_signed_from_abs w64 (x +ℤ y) (omega (arith, ints))) in
+    let ed = to_z-of_z w64 (x -ℤ y) (fits_signed_from_abs w64 (x -ℤ y) (omega (arith, ints))) in
+    let g2 : h ≡ rnd (x +ℤ y) (pos 2) = rw (ex, ey, es) at g in
+    let s2 : unsigned_abs (x +ℤ y) ≤ 2 * unsigned_abs h = rw (ex, ey, es) at s in
+    let t2 : IfSome result (IsDriven b top most h (x -ℤ y)) = rw (ex, ey, ed, to_z-of_z w64 h fh) at told in
+    calm_told b r top most x y h result some few g2 s2 t2
+
+-- a rise by exact products, as it stands in words
+pub exact_rise : (b r : ℕ) (q x y rise : ℤ) → b ≤ 10000000000000 → r ≤ 7000000000000000000 → unsigned_abs q ≤ 1000000000000 → unsigned_abs x ≤ 10000000000000000 → unsigned_abs y ≤ 1000000000000000000000 → unsigned_abs rise ≤ 1000000000000000000
+    → x ≡ impedance_head (to_z w64 b) (to_z w64 (of_z w64 q)) → y ≡ friction_head (to_z w128 r) (to_z w64 (of_z w64 q))
+    → (unsigned_abs rise ≤ 100000000000000 → rise ≡ to_z w128 (of_z w128 (to_z w128 (of_z w128 (to_z w64 (of_z w64 x))) -ℤ to_z w128 (of_z w128 y))))
+    → unsigned_abs (to_z w64 (of_z w64 rise)) ≤ 100000000000000 → to_z w64 (of_z w64 rise) ≡ impedance_head (pos b) q -ℤ friction_head (pos r) q
+exact_rise b r q x y rise sb sr sq sx sy s ex ey e h =
+    let fq = to_z-of_z w64 q (double q (omega arith)) in
+    let fx = to_z-of_z w64 x (double x (omega arith)) in
+    let wx = to_z-of_z w128 x (fits_wide x (omega arith)) in
+    let wy = to_z-of_z w128 y (fits_wide y (omega arith)) in
+    let wd = to_z-of_z w128 (x -ℤ y) (fits_wide (x -ℤ y) (omega (arith, ints))) in
+    let fr = to_z-of_z w64 rise (double rise (omega arith)) in
+    let h2 : unsigned_abs rise ≤ 100000000000000 = rw fr at h in
+    let e2 : rise ≡ x -ℤ y = rw (fx, wx, wy, wd) at (e h2) in
+    let x2 : x ≡ impedance_head (pos b) q = rw (to_z_pos w64 b (omega arith), fq) at ex in
+    let y2 : y ≡ friction_head (pos r) q = rw (to_z_pos w128 r (omega arith), fq) at ey in
+    rw fr (e2 ∙ ap (λ (v : ℤ). v -ℤ y) x2 ∙ ap (λ (v : ℤ). impedance_head (pos b) q -ℤ v) y2)

@@ -1,5 +1,5 @@
 -- The sizes of rounded quotients along a pipe.
-use Rattle.std.proofs.Common.{ℕ, zero, suc, ◌+◌, ◌*◌, ◌/◌, ◌%◌, ◌<◌, ◌≤◌, ◌≡◌, ℤ, pos, ◌*ℤ◌, ◌≤ℤ◌, unsigned_abs, ⊎_elim, ap, ◌∙◌, FitsSigned, arith}
+use Rattle.std.proofs.Common.{ℕ, zero, suc, ◌+◌, ◌*◌, ◌/◌, ◌%◌, ◌<◌, ◌≤◌, ◌≡◌, ℤ, pos, ◌*ℤ◌, ◌≤ℤ◌, unsigned_abs, ⊎_elim, ap, ◌∙◌, FitsSigned, w64, arith}
 use Rattle.std.specs.Int.{w128}
 use Rattle.std.proofs.lemmas.Int.{ints, unsigned_abs-mul, fits_signed_from_abs, fits_signed_mul}
 use Rattle.std.proofs.lemmas.Bool.{cases_lt}
@@ -62,3 +62,14 @@ weighted_fits c z h k = fits_signed_mul w128 c z 10000000000000 10000000000000 h
 
 pub weighted_below : (c z : ℤ) → unsigned_abs c ≤ 10000000000000 → unsigned_abs (c *ℤ z) ≤ 10000000000000 * unsigned_abs z
 weighted_below c z h = rw (unsigned_abs-mul c z) (mul-le (unsigned_abs c) (unsigned_abs z) 10000000000000 (unsigned_abs z) h (omega arith))
+
+-- the flow that a difference of heads drives through twice an impedance
+pub flow_by_twice_below : (d x most twice : ℤ) (b : ℕ) → twice ≡ pos (2 * b) → 0 < b → unsigned_abs d ≤ unsigned_abs most → unsigned_abs most ≤ 2000 * b
+    → 2 * unsigned_abs x * unsigned_abs twice ≤ 2 * unsigned_abs (d *ℤ pos 1000000000) + unsigned_abs twice → unsigned_abs x ≤ 1000000000000
+flow_by_twice_below d x most twice b e some within few h =
+    let k : 2 * unsigned_abs x * (2 * b) ≤ 2 * unsigned_abs (d *ℤ pos 1000000000) + 2 * b = rw e at h in
+    let s : unsigned_abs (d *ℤ pos 1000000000) ≤ 1000000000000 * (2 * b) = rw (unsigned_abs-mul d (pos 1000000000)) (omega arith) in
+    mean_below (unsigned_abs x) (2 * b) (unsigned_abs (d *ℤ pos 1000000000)) 1000000000000 (omega arith) s k
+
+pub difference_fits : (d : ℤ) → unsigned_abs d ≤ 4611686018 → FitsSigned w64 (d *ℤ pos 1000000000)
+difference_fits d h = fits_signed_from_abs w64 (d *ℤ pos 1000000000) (rw (unsigned_abs-mul d (pos 1000000000)) (omega arith))

@@ -1,11 +1,13 @@
--- Runs of inner places of a pipe with friction taken explicitly: what they are computed with, and
--- values that stand for the characteristics between them.
+-- Runs of inner places of a pipe without cavities, friction taken explicitly: what they are computed
+-- with, and values that stand for the characteristics between them.
 use Rattle.std.specs.Prelude.{◌≡◌, ◌≤◌, ◌<◌, ◌+◌, ◌*◌, ℕ, ℤ, pos, ◌+ℤ◌, ◌-ℤ◌, ◌≤ℤ◌, unsigned_abs}
 use Rattle.std.specs.Prelude.{Some}
-use Rattle.fixed_num.specs.Rounding.{rnd, half_up}
+use Rattle.fixed_num.specs.Rounding.{half_up}
 use Rattle.case_model.specs.declared.cases.Friction.TheVariants.{Explicit}
 use Rattle.case_model.specs.declared.points.Point.{Point}
+use Rattle.case_model.specs.declared.spots.Spot.{Spot}
 use Rattle.case_model.specs.declared.meshes.CavityRule.{CavityRule}
+use Rattle.case_model.specs.Runs.{calm_point}
 use Rattle.charline.specs.Characteristics.{arrive_plus, arrive_minus}
 use Rattle.charline.specs.Characteristics.{impedance_head, friction_head, driven_flow}
 use Rattle.charline.specs.Interior.{inner_point}
@@ -18,17 +20,19 @@ pub record IsScaled (r scaled : ℕ) : Type 0 where
 
 -- an impedance in 1e-6 s/m2, a friction in 1e-12 s2/m5 and the same scaled, a difference of heads
 -- that drives no more than the greatest flow through twice the impedance, a flow in 1e-9 m3/s up to
--- which 64 bits suffice, and a head in 1e-6 m
-pub record IsPrepared (b r most scaled few : ℕ) (top : ℤ) : Type 0 where
+-- which 64 bits suffice, a head in 1e-6 m, and twice the impedance
+pub record IsPrepared (b r : ℕ) (most : ℤ) (scaled few : ℕ) (top twice : ℤ) : Type 0 where
   pub low : 100_000 ≤ b
   pub high : b ≤ 10_000_000_000_000
   pub friction : r ≤ 7_000_000_000_000_000_000
-  pub difference : most ≤ 9_000_000_000
-  pub flow : most ≤ 2_000 * b
+  pub some : pos 0 ≤ℤ most
+  pub difference : unsigned_abs most ≤ 4_611_686_018
+  pub flow : unsigned_abs most ≤ 2_000 * b
   pub scaling : IsScaled r scaled
   pub slow : few < 2_147_483_648
   pub product : b * few < 9_223_372_036_854_775_808
   pub head : unsigned_abs top ≤ 100_000_000_000
+  pub divisor : twice ≡ pos (2 * b)
 
 -- a value that is that of the characteristic C+ of a point, or out of the range of characteristics
 pub record IsPlus (b r : ℕ) (from : Point) (c : ℤ) : Type 0 where
@@ -55,21 +59,19 @@ IsRise b r q rise =
     unsigned_abs rise ≤ 100_000_000_000_000
     → rise ≡ impedance_head (pos b) q -ℤ friction_head (pos r) q
 
--- a head from `top` on and a flow, both in range, at which two values of characteristics meet that
--- are in range and have twice this impedance between them
-pub record IsMeeting (b : ℕ) (top plus minus head flow : ℤ) : Type 0 where
-  pub plus_in : unsigned_abs plus ≤ 10_000_000_000_000
-  pub minus_in : unsigned_abs minus ≤ 10_000_000_000_000
-  pub halfway : head ≡ rnd (plus +ℤ minus) (pos 2)
-  pub driven : flow ≡ driven_flow (plus -ℤ minus) (pos (2 * b))
+-- a place at this head, from `top` on, with the flow that a difference of characteristics drives
+-- through twice this impedance, the difference up to `most`
+pub record IsDriven (b : ℕ) (top most head difference : ℤ) (next : Spot) : Type 0 where
+  pub at : next.h ≡ head
+  pub flow : next.q ≡ driven_flow difference (pos (2 * b))
   pub above : top ≤ℤ head
-  pub head_in : unsigned_abs head ≤ 100_000_000_000
-  pub flow_in : unsigned_abs flow ≤ 1_000_000_000_000
+  pub near : unsigned_abs difference ≤ unsigned_abs most
 
--- a point is that of the interior law for each two neighbours with these characteristics, and each
--- vapour head up to `top`
-abbrev pub IsCalmPoint : ℕ → ℕ → ℤ → ℤ → Point → ℤ → Point → Type 0
-IsCalmPoint b r top plus own minus next =
-    (rule : CavityRule) (left right : Point) → rule.hv ≤ℤ top → IsPlus b r left plus
-    → IsMinus b r right minus
-    → next ≡ inner_point Explicit rule (pos b) (pos r) left own right
+-- a place without a cavity is that of the interior law between each two points with these
+-- characteristics and for each vapour head up to `top`, where it had no cavity before
+abbrev pub IsCalmSpot : ℕ → ℕ → ℤ → ℤ → ℤ → Spot → Type 0
+IsCalmSpot b r top plus minus next =
+    (rule : CavityRule) (left right : Point) (own : Spot) → rule.hv ≤ℤ top
+    → IsPlus b r left plus → IsMinus b r right minus
+    → calm_point next
+    ≡ inner_point Explicit rule (pos b) (pos r) left (calm_point own) right

@@ -1,4 +1,5 @@
-//! Runs of inner places with friction taken explicitly: each characteristic once a point, in 64 bits.
+//! Runs of inner places of a pipe without cavities, friction taken explicitly: each characteristic
+//! once a place, in 64 bits.
 ghost use Rattle.std.specs.Prelude.{
   ◌≡◌,
   ◌+◌,
@@ -7,20 +8,24 @@ ghost use Rattle.std.specs.Prelude.{
   ◌%◌,
   ◌<◌,
   ◌≤◌,
+  true,
   pos,
-  ◌*ℤ◌,
+  ◌≤ℤ◌,
   unsigned_abs,
   IfSome,
 };
-ghost use Rattle.fixed_num.specs.Rounding.{rnd as rounded, half_up};
-ghost use Rattle.case_model.specs.Range.{IsPoint};
+ghost use Rattle.fixed_num.specs.Rounding.{half_up};
+ghost use Rattle.case_model.specs.Runs.{calm_point};
 ghost use Rattle.charline.specs.Characteristics.{driven_flow as driven_flow_of};
 ghost use Rattle.charline.specs.Runs.{IsPrepared, IsScaled, IsPlus, IsMinus};
-ghost use Rattle.charline.specs.Runs.{IsRise, rise_size, IsMeeting, IsCalmPoint};
+ghost use Rattle.charline.specs.Runs.{IsRise, rise_size, IsDriven, IsCalmSpot};
 
-use case_model::Point;
+use crate::losses::friction_head;
+use crate::quotients::impedance_head;
+use case_model::Spot;
+use fixed_num::{Reciprocal, half};
 
-// A value out of the range of characteristics, for one that does not fit or does not exist.
+// A rise of the head that is out of the range of characteristics.
 const OUT: i64 = 1_000_000_000_000_000_000;
 
 /// What a run of inner places of a pipe is computed with, friction taken explicitly.
@@ -32,29 +37,24 @@ pub struct Prepared {
     pub r: u64,
     /// The head (1e-6 m) from which on no place is held by its vapour head.
     pub top: i64,
+    // Twice the impedance, as a divisor.
+    twice: Reciprocal,
     // The greatest difference of two characteristics that is computed in 64 bits.
-    most: u64,
+    most: i64,
     // The friction in units of 2^-80 of 1e12 s2/m5.
     scaled: u64,
     // The greatest flow that is computed in 64 bits.
     few: u64,
-    ghost limits: { IsPrepared b r most scaled few top },
+    ghost limits: { IsPrepared b r most scaled few top twice.divisor },
 }
 
-/// The values of both characteristics that leave a point.
+/// The values of both characteristics that leave a place.
 #[derive(Clone, Copy, Debug)]
 pub struct Both {
     /// That of C+.
     pub plus: i64,
     /// That of C-.
     pub minus: i64,
-}
-
-// Where two characteristics meet.
-#[derive(Drop)]
-struct Meeting {
-    head: i64,
-    flow: i64,
 }
 
 impl Prepared {
@@ -72,77 +72,58 @@ impl Prepared {
             b,
             r,
             top,
-            most: (2_000 * b).min(9_000_000_000),
+            twice: Reciprocal::of(twice(b)),
+            most: most(b),
             scaled: scaled(r),
             few: few(b),
         }
     }
 
-    /// The value of C+ of a point, or one out of range.
-    pub fn plus(&self, from: &Point) -> i64
-        requires { IsPoint from.now }
-        ensures { IsPlus self.now.b self.now.r from.now result }
+    /// The values of both characteristics that leave a place without a cavity, each out of range where
+    /// the characteristic is: one flow gives both.
+    pub fn both(&self, from: &Spot) -> Both
+        ensures plus { IsPlus self.now.b self.now.r (calm_point from.now) result.plus }
+        ensures minus { IsMinus self.now.b self.now.r (calm_point from.now) result.minus }
     {
-        match from {
-            Point::Good { h, qd, .. } => *h + self.rise(*qd),
-            Point::Bad => OUT,
+        let rise = self.rise(from.q);
+        Both {
+            plus: from.h + rise,
+            minus: from.h - rise,
         }
     }
 
-    /// A value that stands for C+ of a point, out of range: for one that none needs.
-    pub fn untold(&self, from: &Point) -> i64
-        ensures { IsPlus self.now.b self.now.r from.now result }
-    {
-        OUT
-    }
-
-    /// The values of both characteristics of a point, each as of `plus`: one flow gives both.
-    pub fn both(&self, from: &Point) -> Both
-        requires { IsPoint from.now }
-        ensures plus { IsPlus self.now.b self.now.r from.now result.plus }
-        ensures minus { IsMinus self.now.b self.now.r from.now result.minus }
-    {
-        match from {
-            Point::Good { h, qu, qd, .. } => {
-                let before = self.rise(*qu);
-                let after = self.rise_after(before, *qu, *qd);
-                Both {
-                    plus: *h + after,
-                    minus: *h - before,
-                }
-            }
-            Point::Bad => Both {
-                plus: OUT,
-                minus: OUT,
-            },
-        }
-    }
-
-    /// The point of a place without a cavity between two characteristics, where they meet at `top` or
-    /// above and all is in range; None where the full law is to tell.
-    pub fn calm(&self, plus: i64, own: &Point, minus: i64) -> Option<Point>
-        requires own_in { IsPoint own.now }
+    /// Where two characteristics meet at a place without a cavity, at `top` or above and all in range;
+    /// None where the full law is to tell.
+    pub fn meeting(&self, plus: i64, minus: i64) -> Option<Spot>
         requires plus_in { unsigned_abs plus ≤ 2_000_000_000_000_000_000 }
         requires minus_in { unsigned_abs minus ≤ 2_000_000_000_000_000_000 }
-        ensures { let p = self.now in
-            IfSome result (IsCalmPoint p.b p.r p.top plus own.now minus) }
+        ensures { let p = self.now in IfSome result (IsCalmSpot p.b p.r p.top plus minus) }
     {
-        match own {
-            Point::Good { v, .. } => {
-                if *v != 0 {
-                    return None;
-                }
-                match self.meeting(plus, minus) {
-                    Some(Meeting { head, flow }) => Some(Point::Good {
-                        h: head,
-                        qu: flow,
-                        qd: flow,
-                        v: 0,
-                    }),
-                    None => None,
-                }
-            }
-            Point::Bad => None,
+        self.driven(half(plus + minus), plus - minus)
+    }
+
+    // The place at a head between characteristics with this difference, if both are told to be small.
+    fn driven(&self, head: i64, difference: i64) -> Option<Spot>
+        requires head_in { unsigned_abs head ≤ 4_000_000_000_000_000_000 }
+        requires difference_in { unsigned_abs difference ≤ 4_000_000_000_000_000_000 }
+        ensures { let p = self.now in IfSome result (IsDriven p.b p.top p.most head difference) }
+    {
+        if is_small(difference, self.most) && is_head(head, self.top) {
+            Some(self.spot(head, difference))
+        } else {
+            None
+        }
+    }
+
+    fn spot(&self, head: i64, difference: i64) -> Spot
+        requires head_in { unsigned_abs head ≤ 100_000_000_000 }
+        requires difference_in { unsigned_abs difference ≤ unsigned_abs self.now.most }
+        ensures head { result.h ≡ head }
+        ensures flow { result.q ≡ driven_flow_of difference (pos (2 * self.now.b)) }
+    {
+        Spot {
+            h: head,
+            q: self.flow(difference),
         }
     }
 
@@ -158,22 +139,21 @@ impl Prepared {
         }
     }
 
-    // The same by exact products.
+    // The same by exact products, for great flows and for losses near a tie.
     #[cold]
     fn full_rise(&self, q: i64) -> i64
         requires { unsigned_abs q ≤ 1_000_000_000_000 }
         ensures size { unsigned_abs result ≤ 1_000_000_000_000_000_000 }
         ensures value { IsRise self.now.b self.now.r q result }
     {
-        self.directed(rise_of_size(self.b, self.r, q.unsigned_abs()), q)
+        narrowed(impedance_head(self.b as i64, q) as i128 - friction_head(self.r as i128, q))
     }
 
     // A rise of this size in the direction of the flow.
     fn directed(&self, size: i64, q: i64) -> i64
         requires flow_in { unsigned_abs q ≤ 1_000_000_000_000 }
         requires size_in { unsigned_abs size ≤ 1_000_000_000_000_000_000 }
-        requires value { unsigned_abs size ≤ 100_000_000_000_000 → size
-            ≡ rise_size self.now.b self.now.r (unsigned_abs q) }
+        requires value { size ≡ rise_size self.now.b self.now.r (unsigned_abs q) }
         ensures size { unsigned_abs result ≤ 1_000_000_000_000_000_000 }
         ensures value { IsRise self.now.b self.now.r q result }
     {
@@ -221,74 +201,61 @@ impl Prepared {
         decided(upper(square(flow), self.scaled) + 32_896)
     }
 
-    // The same of the flow on the other side, which differs only at a cavity.
-    fn rise_after(&self, before: i64, qu: i64, qd: i64) -> i64
-        requires down_in { unsigned_abs qd ≤ 1_000_000_000_000 }
-        requires size { unsigned_abs before ≤ 1_000_000_000_000_000_000 }
-        requires value { IsRise self.now.b self.now.r qu before }
-        ensures size { unsigned_abs result ≤ 1_000_000_000_000_000_000 }
-        ensures value { IsRise self.now.b self.now.r qd result }
-    {
-        if qu == qd {
-            before
-        } else {
-            self.rise_beyond(qd)
-        }
-    }
-
-    #[cold]
-    fn rise_beyond(&self, q: i64) -> i64
-        requires { unsigned_abs q ≤ 1_000_000_000_000 }
-        ensures size { unsigned_abs result ≤ 1_000_000_000_000_000_000 }
-        ensures value { IsRise self.now.b self.now.r q result }
-    {
-        self.rise(q)
-    }
-
-    // Where two values of characteristics meet, if it can be told in 64 bits.
-    fn meeting(&self, plus: i64, minus: i64) -> Option<Meeting>
-        requires plus_in { unsigned_abs plus ≤ 2_000_000_000_000_000_000 }
-        requires minus_in { unsigned_abs minus ≤ 2_000_000_000_000_000_000 }
-        ensures { IfSome result
-            (λ m. IsMeeting self.now.b self.now.top plus minus m.head m.flow) }
-    {
-        let difference = plus - minus;
-        let head = half(plus + minus);
-        if difference.unsigned_abs() <= self.most && self.top <= head && head <= 100_000_000_000 {
-            let flow = self.flow(difference);
-            Some(Meeting { head, flow })
-        } else {
-            None
-        }
-    }
-
     // The flow that a difference of characteristics drives through both impedances.
     #[tactic(auto, unfolding(crate::specs::Characteristics::driven_flow))]
     fn flow(&self, difference: i64) -> i64
-        requires { unsigned_abs difference ≤ self.now.most }
+        requires { unsigned_abs difference ≤ unsigned_abs self.now.most }
         ensures value { result ≡ driven_flow_of difference (pos (2 * self.now.b)) }
         ensures size { unsigned_abs result ≤ 1_000_000_000_000 }
     {
-        self.quotient(difference)
+        self.twice.divided(difference * 1_000_000_000)
     }
+}
 
-    #[tactic(auto, unfolding(fixed_num::specs::Rounding::rnd))]
-    fn quotient(&self, difference: i64) -> i64
-        requires { unsigned_abs difference ≤ self.now.most }
-        ensures value { result
-            ≡ rounded (difference *ℤ pos 1_000_000_000) (pos (2 * self.now.b)) }
-        ensures size { unsigned_abs result ≤ 1_000_000_000_000 }
-    {
-        let size = self.flow_of_size(difference.unsigned_abs()) as i64;
-        if difference < 0 { -size } else { size }
-    }
+fn twice(b: u64) -> i64
+    requires { b ≤ 10_000_000_000_000 }
+    ensures { result ≡ pos (2 * b) }
+{
+    2 * b as i64
+}
 
-    fn flow_of_size(&self, difference: u64) -> u64
-        requires { difference ≤ self.now.most }
-        ensures value { result ≡ half_up (difference * 1_000_000_000) (2 * self.now.b) }
-        ensures size { result ≤ 1_000_000_000_000 }
-    {
-        (difference * 1_000_000_000 + self.b) / (2 * self.b)
+fn most(b: u64) -> i64
+    requires { b ≤ 10_000_000_000_000 }
+    ensures low { pos 0 ≤ℤ result }
+    ensures difference { unsigned_abs result ≤ 4_611_686_018 }
+    ensures flow { unsigned_abs result ≤ 2_000 * b }
+{
+    (2_000 * b).min(4_611_686_018) as i64
+}
+
+// A number up to this size: one comparison in place of two.
+fn is_small(x: i64, most: i64) -> bool
+    requires x_in { unsigned_abs x ≤ 4_000_000_000_000_000_000 }
+    requires most_in { unsigned_abs most ≤ 4_611_686_018 }
+    requires some { pos 0 ≤ℤ most }
+    ensures { result ≡ true → unsigned_abs x ≤ unsigned_abs most }
+{
+    (x + most).cast_unsigned() <= (2 * most).cast_unsigned()
+}
+
+// A head from `top` on, in range.
+fn is_head(head: i64, top: i64) -> bool
+    requires head_in { unsigned_abs head ≤ 4_000_000_000_000_000_000 }
+    requires top_in { unsigned_abs top ≤ 100_000_000_000 }
+    ensures above { result ≡ true → top ≤ℤ head }
+    ensures size { result ≡ true → unsigned_abs head ≤ 100_000_000_000 }
+{
+    (head - top).cast_unsigned() <= (100_000_000_000 - top).cast_unsigned()
+}
+
+fn narrowed(rise: i128) -> i64
+    ensures size { unsigned_abs result ≤ 1_000_000_000_000_000_000 }
+    ensures value { unsigned_abs result ≤ 100_000_000_000_000 → result ≡ rise }
+{
+    if rise.unsigned_abs() <= 100_000_000_000_000 {
+        rise as i64
+    } else {
+        OUT
     }
 }
 
@@ -345,77 +312,4 @@ fn decided(near: u64) -> Option<u64>
     } else {
         None
     }
-}
-
-fn rise_of_size(b: u64, r: u64, flow: u64) -> i64
-    requires friction { r ≤ 7_000_000_000_000_000_000 }
-    requires flow_in { flow ≤ 1_000_000_000_000 }
-    ensures size { unsigned_abs result ≤ 1_000_000_000_000_000_000 }
-    ensures value { unsigned_abs result ≤ 100_000_000_000_000 → result ≡ rise_size b r flow }
-{
-    match (stands_for(b, flow), loss(r, flow)) {
-        (Some(head), Some(loss)) => head as i64 - loss as i64,
-        _ => OUT,
-    }
-}
-
-// The head that a flow stands for, where it is computed in 64 bits.
-fn stands_for(b: u64, flow: u64) -> Option<u64>
-    ensures value { IfSome result (λ head. head ≡ half_up (b * flow) 1_000_000_000) }
-    ensures size { IfSome result (λ head. head ≤ 18_446_744_073) }
-{
-    match b.checked_mul(flow)?.checked_add(500_000_000) {
-        Some(product) => Some(product / 1_000_000_000),
-        None => None,
-    }
-}
-
-// The head that friction takes, where it is computed in 64 bits.
-fn loss(r: u64, flow: u64) -> Option<u64>
-    requires friction { r ≤ 7_000_000_000_000_000_000 }
-    requires flow_in { flow ≤ 1_000_000_000_000 }
-    ensures value { IfSome result (λ loss. loss
-        ≡ half_up (half_up (r * flow) 1_000_000_000_000 * flow) 1_000_000_000_000) }
-    ensures size { IfSome result (λ loss. loss ≤ 18_446_744_073) }
-{
-    share(slope(r, flow)?, flow)
-}
-
-// The loss at a unit of flow: friction's millions and the rest are taken apart.
-fn slope(r: u64, flow: u64) -> Option<u64>
-    requires friction { r ≤ 7_000_000_000_000_000_000 }
-    requires flow_in { flow ≤ 1_000_000_000_000 }
-    ensures { IfSome result (λ slope. slope ≡ half_up (r * flow) 1_000_000_000_000) }
-{
-    joined((r / 1_000_000).checked_mul(flow)?, (r % 1_000_000) * flow)
-}
-
-fn joined(most: u64, rest: u64) -> Option<u64>
-    requires { rest ≤ 1_000_000_000_000_000_000 }
-    ensures { IfSome result (λ slope. slope ≡ half_up (most * 1_000_000 + rest) 1_000_000_000_000) }
-{
-    match most.checked_add(rest / 1_000_000 + 500_000) {
-        Some(sum) => Some(sum / 1_000_000),
-        None => None,
-    }
-}
-
-fn share(slope: u64, flow: u64) -> Option<u64>
-    ensures value { IfSome result (λ loss. loss ≡ half_up (slope * flow) 1_000_000_000_000) }
-    ensures size { IfSome result (λ loss. loss ≤ 18_446_744_073) }
-{
-    match slope.checked_mul(flow)?.checked_add(500_000_000_000) {
-        Some(product) => Some(product / 1_000_000_000_000),
-        None => None,
-    }
-}
-
-// Half of a sum, rounded.
-#[tactic(auto, unfolding(fixed_num::specs::Rounding::rnd))]
-fn half(n: i64) -> i64
-    requires { unsigned_abs n ≤ 4_000_000_000_000_000_000 }
-    ensures value { result ≡ rounded n (pos 2) }
-    ensures size { unsigned_abs n ≤ 2 * unsigned_abs result }
-{
-    (n + 1 + (n >> 63)) >> 1
 }

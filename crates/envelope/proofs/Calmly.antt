@@ -126,11 +126,11 @@ taken-at spans bases probes steps every marks cells new samples lines cell step 
     let line = line_noted step first points in
     let n : length points ≡ length spots = length-map spots calm_point in
     let out = λ (d : (k < first) ⊎ (first + length spots ≤ k)).
-        same-standing spans bases steps every marks new lines k (column noted k) (column (union noted line) k)
-        (λ s l. nothing-more (noted s k) (line s k) (g s k) (ap taken (line-outside step first points s k (subst (λ z. (k < first) ⊎ (first + z ≤ k)) (sym n) d))))
-        (standing-outside spans bases probes steps every marks cells new samples lines cell (length spots) k count (column noted k) m
-        (apart (cell_of spans bases k) cell (length spots) (λ i h e. before-cell spans bases first (length spots) k i r o a w d h (e ∙ ap (λ c. c + i) ce)))
-        t.others t.line_others p)
+    same-standing spans bases steps every marks new lines k (column noted k) (column (union noted line) k)
+    (λ s l. nothing-more (noted s k) (line s k) (g s k) (ap taken (line-outside step first points s k (subst (λ z. (k < first) ⊎ (first + z ≤ k)) (sym n) d))))
+    (standing-outside spans bases probes steps every marks cells new samples lines cell (length spots) k count (column noted k) m
+    (apart (cell_of spans bases k) cell (length spots) (λ i h e. before-cell spans bases first (length spots) k i r o a w d h (e ∙ ap (λ c. c + i) ce)))
+    t.others t.line_others p)
     in
     elim (place-in k first (length spots)) [
       | inl h ↦ out (inl h)

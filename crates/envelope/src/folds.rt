@@ -241,8 +241,8 @@ impl Fold {
         }
     }
 
-    /// Takes in points without a cavity, one at least, at a step up to the last. What they change is
-    /// seldom more than nothing, so that the cells are looked at in a loop of its own.
+    /// Takes in points without a cavity, one at least, at a step up to the last. Mostly they change
+    /// nothing, so the cells are looked at in a loop of their own.
     fn note_spots(&mut self, step: u64, first: u64, spots: &[Spot])
         requires step { step ≤ steps_of self.old }
         requires some { 0 < length spots.now }

@@ -10,7 +10,7 @@ fits z h = fits_signed_from_abs w64 z (omega arith)
 pub wide : (x : ℤ) → FitsSigned w64 x → to_z w128 (of_z w128 (to_z w64 (of_z w64 x))) ≡ x
 wide x h = rw (to_z-of_z w64 x h) (to_z-of_z w128 x (search rules))
 
-size : (x : ℤ) → FitsSigned w64 x → unsigned_abs x ≤ 9223372036854775808
+pub size : (x : ℤ) → FitsSigned w64 x → unsigned_abs x ≤ 9223372036854775808
 size x h = grind (arith, ints, h.sfits)
 
 pub wide_fits : (x y : ℤ) → FitsSigned w64 x → FitsSigned w64 y → FitsSigned w128 (x *ℤ y)

@@ -1,4 +1,6 @@
 pub mod Nearest
+pub mod Inverses
+pub mod Shifts
 pub mod Digits
 pub mod Put
 pub mod Between

@@ -1,4 +1,5 @@
 pub mod Rounding
+pub mod Reciprocals
 pub mod Roots
 pub mod Tables
 pub mod Decimal

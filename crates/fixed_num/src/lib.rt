@@ -3,12 +3,14 @@
 #![tactic(auto)]
 
 mod decimal;
+mod reciprocals;
 mod roots;
 mod rounding;
 mod tables;
 mod written;
 
 pub use decimal::{NumberFault, numbers_are_spelled, read_decimal};
+pub use reciprocals::{Reciprocal, billionth, half, mulhi};
 pub use roots::{root, root_is_greatest};
 pub use rounding::rnd;
 pub use tables::interp;

@@ -59,7 +59,8 @@ impl Stretch {
         done + 1
     }
 
-    // Raises the first places of a run, as far as the stretch is calm, and gives how many these are.
+    // Raises the first places of a run, as far as the stretch is calm, and gives how many these
+    // are.
     fn raise_some<L: Law>(&mut self, law: &L, step: u64, low: usize, high: usize) -> usize
         requires on_mesh { IsOnMesh (L.meaning law.now) self.old }
         requires after_first { 0 < low }

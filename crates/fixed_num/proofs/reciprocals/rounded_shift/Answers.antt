@@ -1,0 +1,10 @@
+use Rattle.fixed_num.specs.Reciprocals.{shifted_half_up}
+use Rattle.fixed_num.proofs.Shifts.{sum_fits, shift_is}
+use Rattle.fixed_num.proofs.reciprocals.rounded_shift.Goals as goal
+
+pub overflow_add-result : goal.overflow_add-result
+overflow_add-result c = sum_fits c.args.x c.args.shift c.ranges.x c.requires.number c.requires.shift
+
+pub returns : goal.returns
+unfolding shifted_half_up
+returns c = shift_is c.args.x c.args.shift c.ranges.x c.requires.number c.requires.shift
