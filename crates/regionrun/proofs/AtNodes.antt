@@ -22,7 +22,7 @@ use Rattle.regions.specs.declared.shapes.Shape.{Shape}
 use Rattle.regions.specs.declared.shapes.Shape.TheVariants.{OfNode, OfSeam, OfSection}
 use Rattle.regionrun.proofs.Begun.{of-list}
 use Rattle.regionrun.proofs.Flags.{some-of}
-use Rattle.regionrun.proofs.Handing.{spoke-lawful, station-reads, station-writes}
+use Rattle.regionrun.proofs.Handing.{spoke-lawful, station-has, station-lends}
 use Rattle.regionrun.proofs.Nodes.{AreOfNode, IsOverSpoke, node-stands, owned-node}
 use Rattle.regionrun.proofs.Spanned.{node-within}
 use Rattle.regionrun.specs.Handed.{HasStation, ArePointsFor}
@@ -149,26 +149,27 @@ hub-station layout mesh x side hub d lawful over here =
     (spoke-lawful layout mesh x side hub.node spoke.stretch.number spoke.last spoke.stretch lawful
     over.there over.shape (let e = over.ends.each in omega arith) (sym at.last_is) is)
 
-pub hub-incoming : (law : Meaning) (layout : Layout) (x m side : ℕ) (hub : Hub) (points : List Point)
+pub hub-incoming : (law : Meaning) (layout : Layout) (x m side : ℕ) (hub : Hub)
+    (tells : ℕ → Point → Type 0)
     → IsLawful layout law.mesh → OverHub layout law.mesh x hub → side < length (spokes_of hub)
     → ArePointsFor law layout (side_of layout law.mesh x side) (back_of layout law.mesh x side) m
-    points
-    → HasOuter law layout.window (m * layout.window) side hub points
-hub-incoming law layout x m side hub points lawful over here h = λ d.
+    tells
+    → HasOuter law layout.window (m * layout.window) side hub tells
+hub-incoming law layout x m side hub tells lawful over here h = λ d.
     let spoke = slice_index_or (spokes_of hub) side d in
-    station-reads law layout x side m (not spoke.last) (end_place spoke.last (half layout.window))
-    spoke.stretch points (hub-station layout law.mesh x side hub d lawful over here) h
+    station-has law layout x side m (not spoke.last) (end_place spoke.last (half layout.window))
+    spoke.stretch tells (hub-station layout law.mesh x side hub d lawful over here) h
 
-pub hub-outgoing : (law : Meaning) (layout : Layout) (x m side : ℕ) (hub : Hub) (points : List Point)
+pub hub-outgoing : (law : Meaning) (layout : Layout) (x m side : ℕ) (hub : Hub)
+    (tells : ℕ → Point → Type 0)
     → IsLawful layout law.mesh → OverHub layout law.mesh x hub → side < length (spokes_of hub)
-    → length points ≡ layout.window
-    → HasInner law layout.window (m * layout.window) side hub points
-    → ArePointsFor law layout x side m points
-hub-outgoing law layout x m side hub points lawful over here size has =
+    → HasInner law layout.window (m * layout.window) side hub tells
+    → ArePointsFor law layout x side m tells
+hub-outgoing law layout x m side hub tells lawful over here has =
     let d = some-of side (spokes_of hub) here in
     let spoke = slice_index_or (spokes_of hub) side d in
-    station-writes law layout x side m (not spoke.last) (end_place spoke.last (half layout.window))
-    spoke.stretch points (hub-station layout law.mesh x side hub d lawful over here) size (has d)
+    station-lends law layout x side m (not spoke.last) (end_place spoke.last (half layout.window))
+    spoke.stretch tells (hub-station layout law.mesh x side hub d lawful over here) (has d)
 
 -- ---- what is noted
 

@@ -1,7 +1,7 @@
 -- Strands by kind: the places of a body are those of its strand's shape, and what it takes in,
 -- is computed to and hands on is what the layout says of that strand.
 use Rattle.std.proofs.Common.{◌≡◌, ℕ, zero, suc, ◌+◌, ◌-◌, ◌*◌, ◌<◌, ◌≤◌, ◌==◌, true, false, length}
-use Rattle.std.proofs.Common.{List, refl, ap, sym, subst, ◌∙◌, arith, Some}
+use Rattle.std.proofs.Common.{refl, ap, sym, subst, ◌∙◌, arith, Some}
 use Rattle.case_model.specs.declared.points.Point.{Point}
 use Rattle.case_model.specs.Meaning.{Meaning}
 use Rattle.case_model.specs.declared.meshes.Mesh.{Mesh}
@@ -14,7 +14,7 @@ use Rattle.regions.specs.declared.shapes.Layout.{Layout}
 use Rattle.regions.specs.declared.shapes.Shape.{Shape}
 use Rattle.regionrun.proofs.AtNodes.{AreAtEnds, hub-fits, hub-incoming, hub-noted, hub-outgoing}
 use Rattle.regionrun.proofs.AtNodes.{hub-owned, hub-placed, hub-sides, over-hub}
-use Rattle.regionrun.proofs.Handing.{section-reads, section-writes, station-reads, station-writes}
+use Rattle.regionrun.proofs.Handing.{section-has, section-lends, station-has, station-lends}
 use Rattle.regionrun.proofs.OnPipes.{has-section, has-station, over-seam, over-section}
 use Rattle.regionrun.proofs.OnPipes.{same-seam, same-section, seam-noted, section-noted}
 use Rattle.regionrun.proofs.OnPipes.{section-owned}
@@ -96,44 +96,44 @@ need-station m b e = cc
 
 -- the block that is handed to a strand has the points that its next region needs
 pub body-incoming : (law : Meaning) (layout : Layout) (x m b side : ℕ) (body : Body)
-    (points : List Point) → IsLawful layout law.mesh
+    (tells : ℕ → Point → Type 0) → IsLawful layout law.mesh
     → x < length layout.shapes → IsPlaced law.mesh layout.window (shape_at layout x) body
     → side < side_count body → needs_of (is_section_body body) m ≡ Some b
     → ArePointsFor law layout (side_of layout law.mesh x side) (back_of layout law.mesh x side) b
-    points
-    → HasIncoming law layout.window m side body points
-body-incoming law layout x m b side (OfSection section) points lawful there places here need h =
-    section-reads law layout x side (m - 1) section.stretch points lawful.sides there
+    tells
+    → HasIncoming law layout.window m side body tells
+body-incoming law layout x m b side (OfSection section) tells lawful there places here need h =
+    section-has law layout x side (m - 1) section.stretch tells lawful.sides there
     (has-section layout law.mesh x section.stretch lawful there places) here
     (subst (λ (z : ℕ). ArePointsFor law layout (side_of layout law.mesh x side)
-    (back_of layout law.mesh x side) z points) (need-section m b need) h)
-body-incoming law layout x m b side (OfSeam seam) points lawful there places here need h =
-    station-reads law layout x side m (side == 1) (half layout.window) seam.stretch points
+    (back_of layout law.mesh x side) z tells) (need-section m b need) h)
+body-incoming law layout x m b side (OfSeam seam) tells lawful there places here need h =
+    station-has law layout x side m (side == 1) (half layout.window) seam.stretch tells
     (has-station layout law.mesh x side seam.stretch lawful there here places)
     (subst (λ (z : ℕ). ArePointsFor law layout (side_of layout law.mesh x side)
-    (back_of layout law.mesh x side) z points) (need-station m b need) h)
-body-incoming law layout x m b side (OfNode hub) points lawful there places here need h =
-    hub-incoming law layout x m side hub points lawful
+    (back_of layout law.mesh x side) z tells) (need-station m b need) h)
+body-incoming law layout x m b side (OfNode hub) tells lawful there places here need h =
+    hub-incoming law layout x m side hub tells lawful
     (over-hub layout law.mesh x hub there places.0 places.1) here
     (subst (λ (z : ℕ). ArePointsFor law layout (side_of layout law.mesh x side)
-    (back_of layout law.mesh x side) z points) (need-station m b need) h)
+    (back_of layout law.mesh x side) z tells) (need-station m b need) h)
 
 -- what a strand hands on is its block
 pub body-outgoing : (law : Meaning) (layout : Layout) (x m side : ℕ) (body : Body)
-    (points : List Point) → IsLawful layout law.mesh
+    (tells : ℕ → Point → Type 0) → IsLawful layout law.mesh
     → x < length layout.shapes → IsPlaced law.mesh layout.window (shape_at layout x) body
-    → side < side_count body → length points ≡ layout.window
-    → HasOutgoing law layout.window m side body points
-    → ArePointsFor law layout x side m points
-body-outgoing law layout x m side (OfSection section) points lawful there places here size h =
-    section-writes law layout x side m section.stretch points
-    (has-section layout law.mesh x section.stretch lawful there places) here size h
-body-outgoing law layout x m side (OfSeam seam) points lawful there places here size h =
-    station-writes law layout x side m (side == 1) (half layout.window) seam.stretch points
-    (has-station layout law.mesh x side seam.stretch lawful there here places) size h
-body-outgoing law layout x m side (OfNode hub) points lawful there places here size h =
-    hub-outgoing law layout x m side hub points lawful
-    (over-hub layout law.mesh x hub there places.0 places.1) here size h
+    → side < side_count body
+    → HasOutgoing law layout.window m side body tells
+    → ArePointsFor law layout x side m tells
+body-outgoing law layout x m side (OfSection section) tells lawful there places here h =
+    section-lends law layout x side m section.stretch tells
+    (has-section layout law.mesh x section.stretch lawful there places) here h
+body-outgoing law layout x m side (OfSeam seam) tells lawful there places here h =
+    station-lends law layout x side m (side == 1) (half layout.window) seam.stretch tells
+    (has-station layout law.mesh x side seam.stretch lawful there here places) h
+body-outgoing law layout x m side (OfNode hub) tells lawful there places here h =
+    hub-outgoing law layout x m side hub tells lawful
+    (over-hub layout law.mesh x hub there places.0 places.1) here h
 
 -- ---- regions
 

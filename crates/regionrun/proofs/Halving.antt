@@ -35,8 +35,8 @@ at-start : {S : Type 0} (strand_of entered_of : S → ℕ) (law : Meaning) (layo
 at-start strand_of entered_of law layout x section strand kind at = record {
   kind = ap (is_section layout) at.number_is ∙ kind;
   at = subst (λ z. IsStrandAt strand_of entered_of law layout z 0 strand) (sym at.number_is) at;
-  handed = record {
-    block = λ b computed few. let e : 0 ≡ b + 1 = sym at.computed_is ∙ computed in
+  lending = record {
+    computed = λ b computed. let e : 0 ≡ b + 1 = sym at.computed_is ∙ computed in
         absurd (omega arith);
   };
 }

@@ -1,6 +1,6 @@
 -- The points of blocks, as the strands that hand them on have them in their stretches.
 use Rattle.std.proofs.Common.{◌≡◌, ℕ, ◌+◌, ◌-◌, ◌*◌, ◌/◌, ◌<◌, ◌≤◌, ◌⊎◌, inl, inr, ◌∙◌, ap, sym}
-use Rattle.std.proofs.Common.{subst, refl, arith, Bool, true, false, not, List, if◌then◌else◌}
+use Rattle.std.proofs.Common.{subst, refl, arith, Bool, true, false, not, if◌then◌else◌}
 use Rattle.std.proofs.Common.{◌==◌, length}
 use Rattle.case_model.specs.declared.points.Point.{Point}
 use Rattle.case_model.specs.declared.meshes.Mesh.{Mesh}
@@ -324,61 +324,57 @@ spoke-lawful layout mesh x c k number last stretch lawful inside shape side end 
 -- ---- the points of blocks
 
 -- points that are those of two equal rows
-pub same-points : (count : ℕ) (one other : ℕ → Point) (points : List Point)
+pub same-points : (count : ℕ) (one other : ℕ → Point) (tells : ℕ → Point → Type 0)
     → ((j : ℕ) → j < count → one j ≡ other j)
-    → HasPoints count one points → HasPoints count other points
-same-points count one other points e h = record { each = λ j b. h.each j b ∙ e j b }
+    → HasPoints count one tells → HasPoints count other tells
+same-points count one other tells e h = record { each = λ j b. subst (tells j) (e j b) (h.each j b) }
 
--- what strands write are their blocks, and of the blocks that they are given they read their
+-- what strands lend are their blocks, and in the blocks that they are given they have their
 -- neighbours' points
-pub section-writes : (law : Meaning) (layout : Layout) (y c b : ℕ) (stretch : Stretch)
-    (points : List Point)
-    → HasSection layout y stretch → c < 2 → length points ≡ layout.window
-    → HasPoints layout.window (section_side law stretch (c == 0) (b * layout.window)) points
-    → ArePointsFor law layout y c b points
-section-writes law layout y c b stretch points h side size has = record {
-  each = size;
-  has = same-points layout.window (section_side law stretch (c == 0) (b * layout.window))
-      (block_point law layout y c b) points
-      (λ j l. sym (section-hands law layout y c b j stretch h side l)) has;
-}
+pub section-lends : (law : Meaning) (layout : Layout) (y c b : ℕ) (stretch : Stretch)
+    (tells : ℕ → Point → Type 0)
+    → HasSection layout y stretch → c < 2
+    → HasPoints layout.window (section_side law stretch (c == 0) (b * layout.window)) tells
+    → ArePointsFor law layout y c b tells
+section-lends law layout y c b stretch tells h side has =
+    same-points layout.window (section_side law stretch (c == 0) (b * layout.window))
+    (block_point law layout y c b) tells
+    (λ j l. sym (section-hands law layout y c b j stretch h side l)) has
 
-pub section-reads : (law : Meaning) (layout : Layout) (x c b : ℕ) (stretch : Stretch)
-    (points : List Point)
+pub section-has : (law : Meaning) (layout : Layout) (x c b : ℕ) (stretch : Stretch)
+    (tells : ℕ → Point → Type 0)
     → AreMutual layout law.mesh → x < length layout.shapes → HasSection layout x stretch → c < 2
-    → ArePointsFor law layout (side_of layout law.mesh x c) (back_of layout law.mesh x c) b points
+    → ArePointsFor law layout (side_of layout law.mesh x c) (back_of layout law.mesh x c) b tells
     → HasPoints layout.window (station_side law stretch (c == 0) layout.window (b * layout.window))
-    points
-section-reads law layout x c b stretch points both inside h side block =
+    tells
+section-has law layout x c b stretch tells both inside h side block =
     same-points layout.window
     (block_point law layout (side_of layout law.mesh x c) (back_of layout law.mesh x c) b)
-    (station_side law stretch (c == 0) layout.window (b * layout.window)) points
-    (λ j l. section-takes law layout x c b j stretch both inside h side l) block.has
+    (station_side law stretch (c == 0) layout.window (b * layout.window)) tells
+    (λ j l. section-takes law layout x c b j stretch both inside h side l) block
 
-pub station-writes : (law : Meaning) (layout : Layout) (x c b : ℕ) (right : Bool) (at : ℕ)
-    (stretch : Stretch) (points : List Point)
-    → HasStation layout law.mesh x c right at stretch → length points ≡ layout.window
-    → HasPoints layout.window (inner_side law stretch right at layout.window (b * layout.window))
-    points
-    → ArePointsFor law layout x c b points
-station-writes law layout x c b right at stretch points h size has = record {
-  each = size;
-  has = same-points layout.window
-      (inner_side law stretch right at layout.window (b * layout.window))
-      (block_point law layout x c b) points
-      (λ j l. sym (station-hands law layout x c b j right at stretch h l)) has;
-}
-
-pub station-reads : (law : Meaning) (layout : Layout) (x c b : ℕ) (right : Bool) (at : ℕ)
-    (stretch : Stretch) (points : List Point)
+pub station-lends : (law : Meaning) (layout : Layout) (x c b : ℕ) (right : Bool) (at : ℕ)
+    (stretch : Stretch) (tells : ℕ → Point → Type 0)
     → HasStation layout law.mesh x c right at stretch
-    → ArePointsFor law layout (side_of layout law.mesh x c) (back_of layout law.mesh x c) b points
-    → HasPoints layout.window (outer_side law stretch right at (b * layout.window)) points
-station-reads law layout x c b right at stretch points h block =
+    → HasPoints layout.window (inner_side law stretch right at layout.window (b * layout.window))
+    tells
+    → ArePointsFor law layout x c b tells
+station-lends law layout x c b right at stretch tells h has =
+    same-points layout.window
+    (inner_side law stretch right at layout.window (b * layout.window))
+    (block_point law layout x c b) tells
+    (λ j l. sym (station-hands law layout x c b j right at stretch h l)) has
+
+pub station-has : (law : Meaning) (layout : Layout) (x c b : ℕ) (right : Bool) (at : ℕ)
+    (stretch : Stretch) (tells : ℕ → Point → Type 0)
+    → HasStation layout law.mesh x c right at stretch
+    → ArePointsFor law layout (side_of layout law.mesh x c) (back_of layout law.mesh x c) b tells
+    → HasPoints layout.window (outer_side law stretch right at (b * layout.window)) tells
+station-has law layout x c b right at stretch tells h block =
     same-points layout.window
     (block_point law layout (side_of layout law.mesh x c) (back_of layout law.mesh x c) b)
-    (outer_side law stretch right at (b * layout.window)) points
-    (λ j l. station-takes law layout x c b j right at stretch h l) block.has
+    (outer_side law stretch right at (b * layout.window)) tells
+    (λ j l. station-takes law layout x c b j right at stretch h l) block
 
 -- ---- stretches of the same places
 

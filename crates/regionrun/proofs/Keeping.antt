@@ -58,8 +58,8 @@ right-fits law layout c frontier lawful right =
     (right-placed law layout c frontier right))
 
 pub given-side : (law : Meaning) (layout : Layout) (frontier : Frontier) (side : ℕ)
-    (points : List Point) → IsGiven law layout frontier side points → side < side_count frontier.body
-given-side law layout frontier side points given =
+    (tells : ℕ → Point → Type 0) → IsGiven law layout frontier side tells → side < side_count frontier.body
+given-side law layout frontier side tells given =
     subst (λ (n : ℕ). side < n)
     (body-sides layout law.mesh frontier.number frontier.body given.right.there
     (right-placed law layout frontier.computed frontier given.right)) given.side
@@ -83,13 +83,13 @@ later-if-needed true zero b need e = cc
 later-if-needed true (suc m) b need e = omega arith
 
 pub taken : (law : Meaning) (layout : Layout) (old : Frontier) (new : Body) (side : ℕ)
-    (points : List Point) → IsLawful layout law.mesh
-    → IsGiven law layout old side points → IsSameBody old.body new
+    (tells : ℕ → Point → Type 0) → IsLawful layout law.mesh
+    → IsGiven law layout old side tells → IsSameBody old.body new
     → (IsOpen law old.window old.computed old.body
-    → HasIncoming law old.window old.computed side old.body points
+    → HasIncoming law old.window old.computed side old.body tells
     → IsOpen law old.window old.computed new)
     → Keeps law layout old.computed (shape_at layout old.number) new
-taken law layout old new side points lawful given same opens =
+taken law layout old new side tells lawful given same opens =
     let right = given.right in
     let x = old.number in
     let m = old.computed in
@@ -102,10 +102,10 @@ taken law layout old new side points lawful given same opens =
     let open_old : IsOpen law old.window m old.body =
     subst (λ (w : ℕ). IsOpen law w m old.body) (sym right.window_is)
     (body-open law layout.window m old.body some right.keeps.points) in
-    let has : HasIncoming law old.window m side old.body points =
-    subst (λ (w : ℕ). HasIncoming law w m side old.body points) (sym right.window_is)
-    (body-incoming law layout x m given.block side old.body points lawful right.there places
-    (given-side law layout old side points given) need given.handed) in
+    let has : HasIncoming law old.window m side old.body tells =
+    subst (λ (w : ℕ). HasIncoming law w m side old.body tells) (sym right.window_is)
+    (body-incoming law layout x m given.block side old.body tells lawful right.there places
+    (given-side law layout old side tells given) need given.handed) in
     record {
       places = same-body law.mesh layout.window (shape_at layout x) old.body new same
           right.keeps.places;
@@ -237,12 +237,11 @@ next-regions law layout old ready right =
 -- ---- what is handed on
 
 pub right-outgoing : (law : Meaning) (layout : Layout) (c m side : ℕ) (frontier : Frontier)
-    (points : List Point) → IsLawful layout law.mesh
+    (tells : ℕ → Point → Type 0) → IsLawful layout law.mesh
     → IsRightAt law layout c frontier → side < side_count frontier.body
-    → length points ≡ frontier.window
-    → HasOutgoing law frontier.window m side frontier.body points
-    → ArePointsFor law layout frontier.number side m points
-right-outgoing law layout c m side frontier points lawful right here size has =
-    body-outgoing law layout frontier.number m side frontier.body points lawful right.there
-    (right-placed law layout c frontier right) here (size ∙ right.window_is)
-    (subst (λ (w : ℕ). HasOutgoing law w m side frontier.body points) right.window_is has)
+    → HasOutgoing law frontier.window m side frontier.body tells
+    → ArePointsFor law layout frontier.number side m tells
+right-outgoing law layout c m side frontier tells lawful right here has =
+    body-outgoing law layout frontier.number m side frontier.body tells lawful right.there
+    (right-placed law layout c frontier right) here
+    (subst (λ (w : ℕ). HasOutgoing law w m side frontier.body tells) right.window_is has)

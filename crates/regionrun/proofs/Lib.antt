@@ -10,6 +10,7 @@ mod OnPipes
 mod Parts
 mod Sizing
 mod Turning
+mod Unprobed
 mod Wording
 pub mod Begun
 pub mod Beside

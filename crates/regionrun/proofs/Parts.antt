@@ -1,10 +1,8 @@
 -- The parts of a block, while one after another is written.
 use Rattle.std.proofs.Common.{◌≡◌, ℕ, ◌+◌, ◌-◌, ◌*◌, ◌<◌, ◌≤◌, inl, inr, ◌∙◌, ap, sym, subst}
 use Rattle.std.proofs.Common.{arith, List, ◌++◌, length, take, drop}
-use Rattle.std.specs.Prelude.{All}
 use Rattle.std.proofs.lemmas.List.{drop-append-le, length-drop, length-take-le, take-append-drop}
 use Rattle.std.proofs.lemmas.List.{take-append-le}
-use Rattle.std.proofs.lemmas.List.Elements.{All-append, All-drop, All-take}
 use Rattle.std.proofs.Math.Nat.{mul-le-mul_left}
 use Rattle.std.proofs.Math.Seq.{drop-append_seam, take-append_seam}
 use borrow.Rule.Slice.PartMut.{post_of, put_mid}
@@ -67,20 +65,9 @@ parts-more P width c a k old run begins wide size fits before here i below =
           (subst (P c) (sym (part-here width c old run size inside)) here)
     ]))
 
--- and what holds of all items of both holds of all
-pub all-put : {X : Type 0} (P : X → Type 0) (a k : ℕ) (old run : List X) → All P old → All P run
-    → All P (put_mid a k old run)
-all-put P a k old run whole new =
-    All-append P (take a old) (run ++ post_of a k old) (All-take P a old whole)
-    (All-append P run (post_of a k old) new (All-drop P k (drop a old) (All-drop P a old whole)))
-
-pub all-part : {X : Type 0} (P : X → Type 0) (width c : ℕ) (items : List X) → All P items
-    → All P (part width c items)
-all-part P width c items whole =
-    All-take P (width * c + width - width * c) (drop (width * c) items)
-    (All-drop P (width * c) items whole)
-
--- however the width of the part that is written is put
-pub put-wide : {X : Type 0} (width c k : ℕ) (old run : List X) → k ≡ width
-    → part width c (put_mid (width * c) k old run) ≡ part width c (put_mid (width * c) width old run)
-put-wide width c k old run e = ap (λ z. part width c (put_mid (width * c) z old run)) e
+-- the part for a side lies within a block
+pub part-inside : (width sides side count : ℕ) → side < sides → count ≡ width * sides
+    → width * side + width ≤ count
+part-inside width sides side count below size =
+    let m : width * (side + 1) ≤ width * sides = mul-le-mul_left width (omega arith) in
+    omega arith

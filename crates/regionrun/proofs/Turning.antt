@@ -1,10 +1,9 @@
 -- Turns: what the strands beside one have handed to it, and what it has when it is fed.
-use Rattle.std.specs.Prelude.{◌≡◌, ℕ, zero, suc, ◌+◌, ◌-◌, ◌*◌, ◌<◌, ◌≤◌, ◌==◌, Bool, true, false}
+use Rattle.std.specs.Prelude.{◌≡◌, ℕ, zero, suc, ◌+◌, ◌-◌, ◌<◌, ◌≤◌, ◌==◌, Bool, true, false}
 use Rattle.std.specs.Prelude.{◌||◌, not, if◌then◌else◌, List, length, slice_index_or, Option, Some}
 use Rattle.std.specs.Prelude.{None, is_some, refl}
 use Rattle.std.proofs.Common.{sym, ◌∙◌, ap, subst, arith, inl, inr, eq-eqb}
 use Rattle.std.proofs.lemmas.Bool.{or_right}
-use Rattle.std.proofs.Math.Nat.{mul-le-mul_left}
 use Rattle.case_model.specs.Meaning.{Meaning}
 use Rattle.case_model.specs.declared.points.Point.{Point}
 use Rattle.regions.specs.declared.shapes.Layout.{Layout}
@@ -12,11 +11,14 @@ use Rattle.regions.specs.Needs.{needs_of}
 use Rattle.regions.specs.Sides.{back_of, is_section, side_of, sides_of}
 use Rattle.regionrun.specs.declared.frontiers.Frontier.{Frontier}
 use Rattle.regionrun.specs.declared.one_strand.Strand.{Strand}
-use Rattle.regionrun.specs.Engine.{AreBeside, HasHanded, IsCourse}
-use Rattle.regionrun.specs.Handed.{ArePointsFor, IsBlockOf, part}
+use Rattle.regionrun.specs.Engine.{AreBeside, IsCourse, IsLending}
+use Rattle.regionrun.specs.Bodies.{HasOutgoing, IsComputed}
+use Rattle.regionrun.specs.Handed.{ArePointsFor}
+use Rattle.regionrun.specs.Lawful.{IsLawful}
+use Rattle.regionrun.proofs.Keeping.{right-outgoing, right-sides}
 use Rattle.regionrun.specs.Right.{IsGiven, IsRight, IsSameStrand, has_loaded}
 use Rattle.strands.proofs.Handing.{before-or-at}
-use Rattle.schedule.specs.Nets.{Net, regions_of}
+use Rattle.schedule.specs.Nets.{Net}
 
 -- ---- the sides of a plan
 
@@ -77,7 +79,7 @@ pub record IsNeighbour (law : Meaning) (layout : Layout) (section : Bool) (r x c
   pub below : back < frontier.sides
   pub right : IsRight law layout frontier
   pub computed_is : frontier.computed ≡ (if section then r else r + 1)
-  pub handed : HasHanded law layout frontier
+  pub lending : IsLending law layout frontier
 
 neighbour-at : {S : Type 0} (strand_of entered_of : S → ℕ) (law : Meaning)
     (layout : Layout) (net : Net) (section : Bool) (r first : ℕ) (strands : List (Strand S))
@@ -110,7 +112,7 @@ neighbour-at strand_of entered_of law layout net section r first strands x c y b
           (both.index x c there side)));
       right = rest.at.right;
       computed_is = rest.at.computed_is;
-      handed = rest.handed;
+      lending = rest.lending;
     }
 
 pub neighbour-is : {S : Type 0} (strand_of entered_of : S → ℕ) (law : Meaning)
@@ -128,13 +130,6 @@ neighbour-is {S} strand_of entered_of law layout net section r first strands x c
     (neighbour-at strand_of entered_of law layout net section r first strands x c y back i d
     course beside kind there side link refl)
 
--- the part for a side lies within a block
-pub part-inside : (width sides side count : ℕ) → side < sides → count ≡ width * sides
-    → width * side + width ≤ count
-part-inside width sides side count below size =
-    let m : width * (side + 1) ≤ width * sides = mul-le-mul_left width (omega arith) in
-    omega arith
-
 -- ---- what it has handed on
 
 -- the block that a region needs is the last that the strands beside have written
@@ -144,36 +139,45 @@ needed-is true zero b need = cc
 needed-is true (suc m) b need = let e : m ≡ b = cc in omega arith
 needed-is false r b need = let e : r ≡ b = cc in omega arith
 
-needed-below : (section : Bool) (r b windows : ℕ) → needs_of section r ≡ Some b
-    → r < regions_of section windows → b < windows
-needed-below true zero b windows need few = cc
-needed-below true (suc m) b windows need few = let e : m ≡ b = cc in omega arith
-needed-below false r b windows need few = let e : r ≡ b = cc in omega arith
-
--- its part for the strand is what the strand needs
-pub handed-part : (law : Meaning) (layout : Layout) (section : Bool) (r x c back b : ℕ)
-    (frontier : Frontier)
-    → IsNeighbour law layout section r x c back frontier
-    → r < regions_of section layout.windows → needs_of section r ≡ Some b
-    → ArePointsFor law layout (side_of layout law.mesh x c) (back_of layout law.mesh x c) b
-    (part frontier.window back frontier.block.items)
-handed-part law layout section r x c back b frontier is few need =
-    let block : IsBlockOf law layout frontier.number b frontier.block.items =
-    is.handed.block b (is.computed_is ∙ needed-is section r b need)
-    (needed-below section r b layout.windows need few) in
-    subst (λ w. ArePointsFor law layout (side_of layout law.mesh x c) (back_of layout law.mesh x c) b
-    (part w back frontier.block.items)) (sym is.right.window_is)
-    (subst (λ y. ArePointsFor law layout y (back_of layout law.mesh x c) b
-    (part layout.window back frontier.block.items)) is.number_is
-    (subst (λ z. ArePointsFor law layout frontier.number z b
-    (part layout.window back frontier.block.items)) is.back_is
-    (block.parts back (subst (λ n. back < n) is.right.sides_are is.below))))
-
--- ---- feeding a strand
-
 some-of : (o : Option ℕ) → is_some o ≡ true → (b : ℕ) × (o ≡ Some b)
 some-of (Some b) e = (b, refl)
 some-of None e = cc
+
+-- so some region of theirs is computed
+pub needed-some : (law : Meaning) (layout : Layout) (section : Bool) (r x c back : ℕ)
+    (frontier : Frontier) → IsNeighbour law layout section r x c back frontier
+    → is_some (needs_of section r) ≡ true → 1 ≤ frontier.computed
+needed-some law layout section r x c back frontier is some =
+    let need = some-of (needs_of section r) some in
+    let e = needed-is section r need.0 need.1 in
+    let f = is.computed_is in
+    omega arith
+
+-- what it lends the strand is what the strand needs
+pub handed-points : (law : Meaning) (layout : Layout) (section : Bool) (r x c back b : ℕ)
+    (frontier : Frontier) (tells : ℕ → Point → Type 0) → IsLawful layout law.mesh
+    → IsNeighbour law layout section r x c back frontier → needs_of section r ≡ Some b
+    → (IsComputed law frontier.window (frontier.computed - 1) frontier.body
+    → HasOutgoing law frontier.window (frontier.computed - 1) back frontier.body tells)
+    → ArePointsFor law layout (side_of layout law.mesh x c) (back_of layout law.mesh x c) b tells
+handed-points law layout section r x c back b frontier tells lawful is need lends =
+    let e : frontier.computed ≡ b + 1 = is.computed_is ∙ needed-is section r b need in
+    let m : frontier.computed - 1 ≡ b = omega arith in
+    let computed : IsComputed law frontier.window (frontier.computed - 1) frontier.body =
+    subst (λ (w : ℕ). IsComputed law w (frontier.computed - 1) frontier.body)
+    (sym is.right.window_is)
+    (subst (λ (n : ℕ). IsComputed law layout.window n frontier.body) (sym m)
+    (is.lending.computed b e)) in
+    let here : ArePointsFor law layout frontier.number back b tells =
+    right-outgoing law layout frontier.computed b back frontier tells lawful is.right
+    (subst (λ (n : ℕ). back < n)
+    (right-sides law layout frontier.computed frontier is.right) is.below)
+    (subst (λ (n : ℕ). HasOutgoing law frontier.window n back frontier.body tells) m
+    (lends computed)) in
+    subst (λ y. ArePointsFor law layout y (back_of layout law.mesh x c) b tells) is.number_is
+    (subst (λ z. ArePointsFor law layout frontier.number z b tells) is.back_is here)
+
+-- ---- feeding a strand
 
 -- the strand while it is fed, as it was at the start of its turn
 pub record IsFeeding (law : Meaning) (layout : Layout) (start now : Frontier) : Type 0 where
@@ -182,13 +186,13 @@ pub record IsFeeding (law : Meaning) (layout : Layout) (start now : Frontier) : 
   pub computed : now.computed ≡ start.computed
 
 pub feeding : (law : Meaning) (layout : Layout) (section : Bool) (r c : ℕ) (start now : Frontier)
-    (points : List Point)
+    (tells : ℕ → Point → Type 0)
     → is_section layout start.number ≡ section → start.computed ≡ r
     → is_some (needs_of section r) ≡ true → IsFeeding law layout start now → c < start.sides
     → ((b : ℕ) → needs_of section r ≡ Some b → ArePointsFor law layout
-    (side_of layout law.mesh now.number c) (back_of layout law.mesh now.number c) b points)
-    → IsGiven law layout now c points
-feeding law layout section r c start now points kind computed some f side handed =
+    (side_of layout law.mesh now.number c) (back_of layout law.mesh now.number c) b tells)
+    → IsGiven law layout now c tells
+feeding law layout section r c start now tells kind computed some f side handed =
     let need = some-of (needs_of section r) some in
     record {
       right = f.right;

@@ -1,7 +1,7 @@
 -- What a strand keeps of its places, by its kind: what is computed of it, what it takes in, and
 -- what it hands on. Windows have w steps; c is how many regions are computed.
 use Rattle.std.specs.Prelude.{◌≡◌, ℕ, zero, suc, ◌+◌, ◌-◌, ◌*◌, ◌<◌, ◌≤◌, ◌==◌, ◌||◌, Bool, true}
-use Rattle.std.specs.Prelude.{false, if◌then◌else◌, List, length, map, slice_index_or}
+use Rattle.std.specs.Prelude.{false, if◌then◌else◌, length, map, slice_index_or}
 use Rattle.case_model.specs.Meaning.{Meaning}
 use Rattle.case_model.specs.declared.meshes.Mesh.{Mesh}
 use Rattle.case_model.specs.declared.points.Point.{Point}
@@ -84,21 +84,21 @@ IsComputed law w c (OfSection section) = IsSectionAt law w (c * w) section × Is
 IsComputed law w c (OfSeam seam) = IsSeamDone law w (c * w) seam × IsSeamAt law w (c * w + w) seam
 IsComputed law w c (OfNode hub) = IsHubAfter law w (c * w) w hub × IsHubAt law w (c * w + w) hub
 
--- the points are those that the next region needs of a side
-abbrev pub HasIncoming : Meaning → ℕ → ℕ → ℕ → Body → List Point → Type 0
-HasIncoming law w c side (OfSection section) points =
-    HasPoints w (station_side law section.stretch (side == 0) w ((c - 1) * w)) points
-HasIncoming law w c side (OfSeam seam) points =
-    HasPoints w (outer_side law seam.stretch (side == 1) (half w) (c * w)) points
-HasIncoming law w c side (OfNode hub) points = HasOuter law w (c * w) side hub points
+-- a block has the points that the next region needs of a side
+abbrev pub HasIncoming : Meaning → ℕ → ℕ → ℕ → Body → (ℕ → Point → Type 0) → Type 0
+HasIncoming law w c side (OfSection section) tells =
+    HasPoints w (station_side law section.stretch (side == 0) w ((c - 1) * w)) tells
+HasIncoming law w c side (OfSeam seam) tells =
+    HasPoints w (outer_side law seam.stretch (side == 1) (half w) (c * w)) tells
+HasIncoming law w c side (OfNode hub) tells = HasOuter law w (c * w) side hub tells
 
--- the points are those of region c for a side
-abbrev pub HasOutgoing : Meaning → ℕ → ℕ → ℕ → Body → List Point → Type 0
-HasOutgoing law w c side (OfSection section) points =
-    HasPoints w (section_side law section.stretch (side == 0) (c * w)) points
-HasOutgoing law w c side (OfSeam seam) points =
-    HasPoints w (inner_side law seam.stretch (side == 1) (half w) w (c * w)) points
-HasOutgoing law w c side (OfNode hub) points = HasInner law w (c * w) side hub points
+-- a block has the points of region c for a side
+abbrev pub HasOutgoing : Meaning → ℕ → ℕ → ℕ → Body → (ℕ → Point → Type 0) → Type 0
+HasOutgoing law w c side (OfSection section) tells =
+    HasPoints w (section_side law section.stretch (side == 0) (c * w)) tells
+HasOutgoing law w c side (OfSeam seam) tells =
+    HasPoints w (inner_side law seam.stretch (side == 1) (half w) w (c * w)) tells
+HasOutgoing law w c side (OfNode hub) tells = HasInner law w (c * w) side hub tells
 
 -- two bodies of the same kind, with the same places
 abbrev pub IsSameBody : Body → Body → Type 0

@@ -7,7 +7,7 @@ use Rattle.regions.specs.declared.shapes.Layout.{Layout}
 use Rattle.regions.specs.Sides.{is_section}
 use Rattle.regionrun.specs.declared.frontiers.Frontier.{Frontier}
 use Rattle.regionrun.specs.declared.one_strand.Strand.{Strand}
-use Rattle.regionrun.specs.Handed.{IsBlockOf}
+use Rattle.regionrun.specs.Bodies.{IsComputed}
 use Rattle.regionrun.specs.Lawful.{IsLawful}
 use Rattle.regionrun.specs.Right.{IsBare, IsRight, IsSameStrand}
 use Rattle.regionrun.specs.Stubs.{HasStub}
@@ -40,17 +40,17 @@ pub record AreSameFolds {S : Type 0} (old new : List (Strand S)) : Type 0 where
   pub fold : (x : ℕ) (d : Strand S) → x < length old
       → IsSameFold (slice_index_or old x d).frontier.fold (slice_index_or new x d).frontier.fold
 
--- a strand has the block at hand that it wrote last
-pub record HasHanded (law : Meaning) (layout : Layout) (frontier : Frontier) : Type 0 where
-  pub block : (b : ℕ) → frontier.computed ≡ b + 1 → b < layout.windows
-      → IsBlockOf law layout frontier.number b frontier.block.items
+-- a strand still has all points of the region that it computed last, and so those of its block
+pub record IsLending (law : Meaning) (layout : Layout) (frontier : Frontier) : Type 0 where
+  pub computed : (b : ℕ) → frontier.computed ≡ b + 1
+      → IsComputed law layout.window b frontier.body
 
 -- a strand of this kind between its turns, with c regions computed
 pub record IsAtRest {S : Type 0} (strand_of entered_of : S → ℕ) (law : Meaning) (layout : Layout)
     (section : Bool) (c : ℕ) (strand : Strand S) : Type 0 where
   pub kind : is_section layout strand.frontier.number ≡ section
   pub at : IsStrandAt strand_of entered_of law layout strand.frontier.number c strand
-  pub handed : HasHanded law layout strand.frontier
+  pub lending : IsLending law layout strand.frontier
 
 -- each of these strands
 pub record AreEachAtRest {S : Type 0} (strand_of entered_of : S → ℕ) (law : Meaning)

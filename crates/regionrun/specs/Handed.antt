@@ -30,21 +30,13 @@ unfoldable pub block_point : Meaning → Layout → ℕ → ℕ → ℕ → ℕ 
 block_point law layout y c b j =
     point_on (row law (block_step layout y b j)) (block_spot layout law.mesh y c j)
 
--- these points are block b of strand y for its side c
-pub record ArePointsFor (law : Meaning) (layout : Layout) (y c b : ℕ) (points : List Point)
-    : Type 0 where
-  pub each : length points ≡ layout.window
-  pub has : HasPoints layout.window (block_point law layout y c b) points
+-- a block has the points of block b of strand y for its side c
+abbrev pub ArePointsFor : Meaning → Layout → ℕ → ℕ → ℕ → (ℕ → Point → Type 0) → Type 0
+ArePointsFor law layout y c b tells = HasPoints layout.window (block_point law layout y c b) tells
 
 -- the part for side c of a list that has so many items for each side
 abbrev pub part : {X : Type 0} → ℕ → ℕ → List X → List X
 part width c items = slice_range items (width * c) (width * c + width)
-
--- these points are block b of strand y: its parts for all its sides, one after another
-pub record IsBlockOf (law : Meaning) (layout : Layout) (y b : ℕ) (points : List Point) : Type 0 where
-  pub each : length points ≡ layout.window * sides_of layout law.mesh y
-  pub parts : (c : ℕ) → c < sides_of layout law.mesh y
-      → ArePointsFor law layout y c b (part layout.window c points)
 
 -- the four words of point number j
 abbrev pub quad : List ℕ → ℕ → List ℕ
@@ -56,11 +48,17 @@ quad words j =
 pub record HasWords (count : ℕ) (point : ℕ → Point) (words : List ℕ) : Type 0 where
   pub each : (j : ℕ) → j < count → quad words j ≡ words_of (point j)
 
--- of words that tell so many points, all in range, these are the points
-pub record AreRead (count : ℕ) (words : List ℕ) (points : List Point) : Type 0 where
-  pub each : length points ≡ count
-  pub has : (point : ℕ → Point) → ((j : ℕ) → IsPoint (point j)) → HasWords count point words
-      → HasPoints count point points
+-- point number j stands in these words
+abbrev pub words_tell : List ℕ → ℕ → Point → Type 0
+words_tell words j point = IsPoint point × (quad words j ≡ words_of point)
+
+-- the words of point number j are these
+abbrev pub words_have : List ℕ → ℕ → Point → Type 0
+words_have words j point = quad words j ≡ words_of point
+
+-- these are the words of so many points of a block
+pub record AreWordsOf (count : ℕ) (tells : ℕ → Point → Type 0) (words : List ℕ) : Type 0 where
+  pub each : (j : ℕ) (point : Point) → j < count → tells j point → words_have words j point
 
 -- point number j is put into words, and nothing else changes
 pub record IsWritten (j : ℕ) (point : Point) (old new : List ℕ) : Type 0 where

@@ -3,6 +3,7 @@ pub mod Engine
 pub mod Gathering
 pub mod Handed
 pub mod Lawful
+pub mod Lent
 pub mod Made
 pub mod Owned
 pub mod Places

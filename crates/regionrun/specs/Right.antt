@@ -80,20 +80,20 @@ pub record IsWantedSome (law : Meaning) (frontier : Frontier) (c : ℕ) (words :
   pub layout : Layout
   pub wanted : IsWanted law layout frontier c words
 
--- these points are that block
+-- a block has these points
 pub record IsGiven (law : Meaning) (layout : Layout) (frontier : Frontier) (c : ℕ)
-    (points : List Point) : Type 0 where
+    (tells : ℕ → Point → Type 0) : Type 0 where
   pub right : IsRight law layout frontier
   pub side : c < sides_of layout law.mesh frontier.number
   pub block : ℕ
   pub needed : needs_of (is_section layout frontier.number) frontier.computed ≡ Some block
   pub handed : ArePointsFor law layout (side_of layout law.mesh frontier.number c)
-      (back_of layout law.mesh frontier.number c) block points
+      (back_of layout law.mesh frontier.number c) block tells
 
-pub record IsGivenSome (law : Meaning) (frontier : Frontier) (c : ℕ) (points : List Point)
-    : Type 0 where
+pub record IsGivenSome (law : Meaning) (frontier : Frontier) (c : ℕ)
+    (tells : ℕ → Point → Type 0) : Type 0 where
   pub layout : Layout
-  pub given : IsGiven law layout frontier c points
+  pub given : IsGiven law layout frontier c tells
 
 -- whether the block of side c is loaded
 unfoldable pub has_loaded : Frontier → ℕ → Bool

@@ -1,5 +1,6 @@
 -- What strands are made of, and where they stand on the mesh.
 use Rattle.std.specs.Prelude.{◌≡◌, ℕ, ◌+◌, ◌/◌, ◌<◌, ◌≤◌, List, [], ◌∷◌, length}
+use Rattle.std.specs.Prelude.{Bool, false, slice_index_or, true}
 use Rattle.std.specs.List.{filter}
 use Rattle.case_model.specs.declared.cases.Case.{Case}
 use Rattle.case_model.specs.declared.meshes.Mesh.{Mesh}
@@ -36,6 +37,16 @@ HasSpans mesh w (OfSeam pipe place left right) =
     IsSpanned mesh w pipe × ((w + 1) / 2 ≤ place) × (place + (w + 1) / 2 ≤ reaches mesh pipe)
 HasSpans mesh w (OfSection pipe place count left right) =
     IsSpanned mesh w pipe × (2 ≤ count) × (place + count ≤ reaches mesh pipe)
+
+-- of places that are marked where they have a probe: each probe's place is, or isn't among them
+abbrev pub AreProbed : List ℕ → List Bool → Type 0
+AreProbed probes probed =
+    (j : ℕ) → j < length probes → slice_index_or probed (slice_index_or probes j 0) true ≡ true
+
+-- none of the places of some spans has a probe
+abbrev pub HasNoProbe : List (ℕ × ℕ) → List Bool → Type 0
+HasNoProbe spans probed =
+    (k : ℕ) → is_within spans k ≡ true → slice_index_or probed k true ≡ false
 
 -- the fold of strand x: of the places that its regions reach, with the probes that lie there
 abbrev pub IsStrandFold : Case → Mesh → Layout → List ℕ → ℕ → Fold → Type 0

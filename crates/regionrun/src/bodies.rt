@@ -1,27 +1,26 @@
-//! What a strand keeps of its places, by its kind: how it takes blocks in, is computed, and hands
-//! its own blocks on.
-ghost use Rattle.std.specs.Prelude.{◌≡◌, ℕ, ◌+◌, ◌*◌, ◌^◌, ◌<◌, ◌≤◌, All, length};
+//! What a strand keeps of its places, by its kind: how it takes blocks in, is computed, and lends
+//! its own blocks.
+ghost use Rattle.std.specs.Prelude.{◌≡◌, ◌+◌, ◌*◌, ◌^◌, ◌<◌, ◌≤◌};
 ghost use Rattle.case_model.specs.Meaning.{Meaning};
-ghost use Rattle.case_model.specs.Range.{IsPoint};
-ghost use Rattle.case_model.specs.declared.meshes.TheConstants.{MOST_ENDS};
 ghost use Rattle.envelope.specs.Folds.{IsSameFold, Stands};
 ghost use Rattle.regionrun.specs.Bodies.{FitsWindow, HasIncoming, HasLoaded, HasOutgoing};
 ghost use Rattle.regionrun.specs.Bodies.{IsBareBody, IsBodyAt, IsComputed, IsFedBody, IsNoting};
 ghost use Rattle.regionrun.specs.Bodies.{IsOpen, IsSameBody, body_marks, is_section_body};
 ghost use Rattle.regionrun.specs.Bodies.{IsSectionAfter, section_marks, side_count, window_start};
-ghost use Rattle.regionrun.specs.Handed.{part};
+ghost use Rattle.regionrun.specs.Lent.{lent_size, lent_tells};
 ghost use Rattle.fronts.specs.Stretches.{AreSamePlaces, count_of};
 ghost use Rattle.strands.specs.Sections.{NotesInside};
 ghost use Rattle.strands.specs.Tents.{IsFed, IsSectionAt, IsUnfed};
 ghost use Rattle.regions.specs.declared.shapes.TheConstants.{WIDEST_WINDOW};
 ghost use Rattle.strands.specs.Marks.{Marks, marked, or_marked};
 
-use case_model::{Law, Point};
+use crate::lent::Lent;
+use case_model::Law;
 use envelope::Fold;
-use strands::{Hub, Seam, Section};
+use strands::{Block, Hub, Seam, Section};
 
 /// The places of a section, a seam or a node.
-#[derive(Drop, Debug)]
+#[derive(Drop)]
 pub(crate) enum Body {
     OfSection(Section),
     OfSeam(Seam),
@@ -51,23 +50,22 @@ impl Body {
     }
 
     /// Takes the block of one side in that a region needs.
-    pub(crate) fn load(&mut self, side: usize, window: usize, region: u64, points: &[Point])
+    pub(crate) fn load<B: Block>(&mut self, side: usize, window: usize, region: u64, block: &B)
         requires few_steps { window ≤ WIDEST_WINDOW }
         requires few { region ≤ 100_000_001 }
         requires side { side < side_count self.old }
-        requires each { length points.now ≡ window }
-        requires in_range { All IsPoint points.now }
+        requires each { B.size block.now ≡ window }
         requires fits { FitsWindow window self.old }
         ensures loaded { HasLoaded side self.old self.new }
         ensures open { (law : Meaning) → IsOpen law window region self.old →
-            HasIncoming law window region side self.old points.now →
+            HasIncoming law window region side self.old (B.tells block.now) →
             IsOpen law window region self.new }
     {
         let start = self.start(window, region);
         match self {
-            Body::OfSection(section) => section.load(side == 0, window, start, points),
-            Body::OfSeam(seam) => seam.load(side == 1, window, start, points),
-            Body::OfNode(hub) => hub.load(side, window, start, points),
+            Body::OfSection(section) => section.load(side == 0, window, start, block),
+            Body::OfSeam(seam) => seam.load(side == 1, window, start, block),
+            Body::OfNode(hub) => hub.load(side, window, start, block),
         }
     }
 
@@ -96,43 +94,21 @@ impl Body {
         }
     }
 
-    /// Writes a region's block for one side.
-    pub(crate) fn write(&self, side: usize, window: usize, region: u64, out: &mut [Point])
+    /// A region's block for one side, read where its points stand.
+    pub(crate) fn block(&self, side: usize, window: usize, region: u64) -> Lent
         requires few_steps { window ≤ WIDEST_WINDOW }
         requires few { region ≤ 100_000_001 }
         requires side { side < side_count self.now }
-        requires each { length out.old ≡ window }
         requires fits { FitsWindow window self.now }
         ensures points { (law : Meaning) → IsComputed law window region self.now →
-            HasOutgoing law window region side self.now out.new }
-        ensures in_range { All IsPoint out.new }
-        ensures same { length out.new ≡ length out.old }
+            HasOutgoing law window region side self.now (lent_tells result) }
+        ensures size { lent_size result ≡ window }
     {
         let start = steps_in(window, region);
         match self {
-            Body::OfSection(section) => section.write(side == 0, window, start, out),
-            Body::OfSeam(seam) => seam.write(side == 1, window, start, out),
-            Body::OfNode(hub) => hub.write(side, window, start, out),
-        }
-    }
-
-    /// Writes a region's block for all sides, one after another.
-    pub(crate) fn write_all(&self, window: usize, region: u64, sides: usize, out: &mut [Point])
-        requires few_steps { window ≤ WIDEST_WINDOW }
-        requires few { region ≤ 100_000_001 }
-        requires few_sides { sides ≤ MOST_ENDS }
-        requires sides { sides ≡ side_count self.now }
-        requires fits { FitsWindow window self.now }
-        requires room { length out.old ≡ window * sides }
-        requires in_range { All IsPoint out.old }
-        ensures parts { (law : Meaning) (side : ℕ) → IsComputed law window region self.now →
-            side < sides → HasOutgoing law window region side self.now (part window side out.new) }
-        ensures in_range { All IsPoint out.new }
-        ensures same { length out.new ≡ length out.old }
-    {
-        for side in 0..sides {
-            let part = &mut out[window * side..window * side + window];
-            self.write(side, window, region, part);
+            Body::OfSection(section) => Lent::BySection(section.block(side == 0, window, start)),
+            Body::OfSeam(seam) => Lent::ByStation(seam.block(side == 1, window, start)),
+            Body::OfNode(hub) => Lent::ByStation(hub.block(side, window, start)),
         }
     }
 }

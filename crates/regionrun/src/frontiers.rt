@@ -1,21 +1,21 @@
 //! How far one strand is computed.
-ghost use Rattle.std.specs.Prelude.{◌≡◌, ◌+◌, ◌*◌, ◌≤◌, All, vec_len};
-ghost use Rattle.case_model.specs.Range.{IsPoint};
+ghost use Rattle.std.specs.Prelude.{◌≡◌, ◌+◌, ◌-◌, ◌*◌, ◌≤◌};
 ghost use Rattle.case_model.specs.declared.meshes.TheConstants.{MOST_ENDS};
-ghost use Rattle.fronts.specs.PointProps.{points-prop};
 ghost use Rattle.regions.specs.declared.shapes.TheConstants.{WIDEST_WINDOW};
 
 use crate::bodies::Body;
 use crate::lawful::layouts_are_lawful;
+use crate::lent::Lent;
 use crate::ranges::keeps_range;
-use crate::words::{decode_part, encode, part_for};
-use case_model::{Law, Point};
+use crate::words::{Words, encode_lent};
+use case_model::Law;
 use envelope::{Fold, stands_for_equal_maps};
+use strands::Block;
 
-/// How far one strand is computed: the points that it keeps, the fold that was told all that its
-/// regions own, and the block that it handed on last, for all its sides one after another. The
-/// counts are as small as they can be: there are hundreds of thousands of strands.
-#[derive(Drop, Debug)]
+/// How far one strand is computed: the points that it keeps, and the fold that was told all that
+/// its regions own. The counts are as small as they can be: there are hundreds of thousands of
+/// strands.
+#[derive(Drop)]
 pub(crate) struct Frontier {
     pub(crate) number: u32,
     pub(crate) windows: u32,
@@ -24,21 +24,20 @@ pub(crate) struct Frontier {
     pub(crate) sides: u8,
     pub(crate) body: Body,
     pub(crate) fold: Fold,
-    pub(crate) block: Vec<Point>,
     ghost some_steps: { 1 ≤ window },
     ghost few_steps: { window ≤ WIDEST_WINDOW },
     ghost few_windows: { windows ≤ 100_000_000 },
     ghost few_sides: { sides ≤ MOST_ENDS },
     ghost few_computed: { computed ≤ windows + 1 },
-    ghost room: { vec_len block ≡ window * sides },
-    ghost in_range: { All IsPoint block.items } by { points-prop block.items },
 }
 
 impl Frontier {
     ghost use Rattle.std.specs.Prelude.{ℕ, ◌<◌, ◌||◌, ◌==◌, length};
     ghost use Rattle.case_model.specs.Meaning.{Meaning};
     ghost use Rattle.regionrun.specs.Bodies.{FitsWindow, IsBareBody, IsComputed, side_count};
-    ghost use Rattle.regionrun.specs.Handed.{AreRead, IsBlock, IsBlockOf, part};
+    ghost use Rattle.regionrun.specs.Bodies.{HasOutgoing};
+    ghost use Rattle.regionrun.specs.Handed.{IsBlock};
+    ghost use Rattle.regionrun.specs.Lent.{lent_size, lent_tells};
     ghost use Rattle.regionrun.specs.Right.{IsBare, IsGiven, IsGivenSome, IsReadySome, IsRight};
     ghost use Rattle.regionrun.specs.Right.{IsRightAt, IsSameStrand, IsWanted, IsWantedSome};
     ghost use Rattle.regionrun.specs.Right.{has_loaded, region_count};
@@ -57,11 +56,11 @@ impl Frontier {
     }
 
     /// Takes in the block that the next region needs of a side.
-    pub(crate) fn load<L: Law>(&mut self, law: &L, side: usize, points: &[Point])
-        requires given { IsGivenSome (L.meaning law.now) self.old side points.now }
-        requires in_range { All IsPoint points.now }
+    pub(crate) fn load<L: Law, B: Block>(&mut self, law: &L, side: usize, block: &B)
+        requires given { IsGivenSome (L.meaning law.now) self.old side (B.tells block.now) }
+        requires each { B.size block.now ≡ self.old.window }
         ensures right { (layout : LayoutSeen) →
-            IsGiven (L.meaning law.now) layout self.old side points.now →
+            IsGiven (L.meaning law.now) layout self.old side (B.tells block.now) →
             IsRight (L.meaning law.now) layout self.new }
         ensures loaded { (c : ℕ) → c < self.old.sides →
             has_loaded self.new c ≡ (has_loaded self.old c || (c == side)) }
@@ -70,11 +69,27 @@ impl Frontier {
         let _ = law;
         layouts_are_lawful();
         self.body
-            .load(side, self.window as usize, self.computed as u64, points);
+            .load(side, self.window as usize, self.computed as u64, block);
     }
 
-    /// Takes in the words of the block that the next region needs of a side. The strand's own block
-    /// is lost.
+    /// The same of a block that a strand lends: its kind is asked once.
+    pub(crate) fn load_lent<L: Law>(&mut self, law: &L, side: usize, block: &Lent)
+        requires given { IsGivenSome (L.meaning law.now) self.old side (lent_tells block.now) }
+        requires each { lent_size block.now ≡ self.old.window }
+        ensures right { (layout : LayoutSeen) →
+            IsGiven (L.meaning law.now) layout self.old side (lent_tells block.now) →
+            IsRight (L.meaning law.now) layout self.new }
+        ensures loaded { (c : ℕ) → c < self.old.sides →
+            has_loaded self.new c ≡ (has_loaded self.old c || (c == side)) }
+        ensures same { IsSameStrand self.old self.new × (self.new.computed ≡ self.old.computed) }
+    {
+        match block {
+            Lent::BySection(block) => self.load(law, side, block),
+            Lent::ByStation(block) => self.load(law, side, block),
+        }
+    }
+
+    /// Takes in the words of the block that the next region needs of a side.
     pub(crate) fn load_words<L: Law>(&mut self, law: &L, side: usize, words: &[u64])
         requires wanted { IsWantedSome (L.meaning law.now) self.old side words.now }
         ensures right { (layout : LayoutSeen) →
@@ -85,59 +100,39 @@ impl Frontier {
         ensures same { IsSameStrand self.old self.new × (self.new.computed ≡ self.old.computed) }
     {
         keeps_range(law);
-        self.read_words(side, words);
-        self.load_own(law, side);
+        self.load(law, side, &Words { words });
     }
 
-    // Reads the words of a block into the part of the strand's own block that is for a side.
-    fn read_words(&mut self, side: usize, words: &[u64])
-        requires there { side < self.old.sides }
-        requires room { length words.now ≡ 4 * self.old.window }
-        ensures read { AreRead self.old.window words.now
-            (part self.old.window side self.new.block.items) }
-        ensures right { (law : Meaning) (layout : LayoutSeen) (n : ℕ) →
-            IsRightAt law layout n self.old → IsRightAt law layout n self.new }
-        ensures body { self.new.body ≡ self.old.body }
-        ensures same { IsSameStrand self.old self.new × (self.new.computed ≡ self.old.computed) }
-    {
-        decode_part(words, self.window as usize, side, &mut self.block);
-    }
-
-    // Takes in what stands in the strand's own block for a side.
-    fn load_own<L: Law>(&mut self, law: &L, side: usize)
-        requires there { side < self.old.sides }
-        requires given { IsGivenSome (L.meaning law.now) self.old side
-            (part self.old.window side self.old.block.items) }
-        ensures right { (layout : LayoutSeen) → IsGiven (L.meaning law.now) layout self.old side
-            (part self.old.window side self.old.block.items) →
-            IsRight (L.meaning law.now) layout self.new }
-        ensures loaded { (c : ℕ) → c < self.old.sides →
-            has_loaded self.new c ≡ (has_loaded self.old c || (c == side)) }
-        ensures same { IsSameStrand self.old self.new × (self.new.computed ≡ self.old.computed) }
-    {
-        let _ = law;
-        layouts_are_lawful();
-        let window = self.window as usize;
-        let points = part_for(&self.block, window, side);
-        self.body.load(side, window, self.computed as u64, points);
-    }
-
-    /// Computes the next region, and writes its block where it has one.
+    /// Computes the next region.
     pub(crate) fn compute<L: Law>(&mut self, law: &L)
         requires ready { IsReadySome (L.meaning law.now) self.old }
         ensures right { (layout : LayoutSeen) → IsRight (L.meaning law.now) layout self.old →
             IsRight (L.meaning law.now) layout self.new }
-        ensures block { (layout : LayoutSeen) → IsRight (L.meaning law.now) layout self.old →
-            self.old.computed < self.old.windows →
-            IsBlockOf (L.meaning law.now) layout self.old.number self.old.computed
-            self.new.block.items }
+        ensures computed { IsComputed (L.meaning law.now) self.new.window self.old.computed
+            self.new.body }
+        ensures fits { FitsWindow self.new.window self.new.body }
+        ensures sides { self.new.sides ≡ side_count self.new.body }
         ensures more { self.new.computed ≡ self.old.computed + 1 }
         ensures bare { IsBare self.new }
         ensures same { IsSameStrand self.old self.new }
     {
         self.advance(law);
-        self.hand_on();
         self.computed += 1;
+    }
+
+    /// The block of the region that was computed last, for a side, read where its points stand.
+    pub(crate) fn block(&self, side: usize) -> Lent
+        requires some { 1 ≤ self.now.computed }
+        requires side { side < side_count self.now.body }
+        requires fits { FitsWindow self.now.window self.now.body }
+        ensures points { (law : Meaning) →
+            IsComputed law self.now.window (self.now.computed - 1) self.now.body →
+            HasOutgoing law self.now.window (self.now.computed - 1) side self.now.body
+            (lent_tells result) }
+        ensures size { lent_size result ≡ self.now.window }
+    {
+        self.body
+            .block(side, self.window as usize, self.computed as u64 - 1)
     }
 
     /// Computes the next region, and writes the words of its block where it has one.
@@ -156,7 +151,26 @@ impl Frontier {
     {
         self.compute(law);
         if self.computed <= self.windows {
-            encode(&self.block, out);
+            self.write_words(out);
+        }
+    }
+
+    // Writes the words of the block of the region that was computed last, for all sides one after
+    // another.
+    fn write_words(&self, out: &mut [u64])
+        requires some { 1 ≤ self.now.computed }
+        requires sides { self.now.sides ≡ side_count self.now.body }
+        requires fits { FitsWindow self.now.window self.now.body }
+        requires room { length out.old ≡ 4 * self.now.window * self.now.sides }
+        ensures block { (law : Meaning) (layout : LayoutSeen) → IsRight law layout self.now →
+            IsComputed law self.now.window (self.now.computed - 1) self.now.body →
+            IsBlock law layout self.now.number (self.now.computed - 1) out.new }
+    {
+        layouts_are_lawful();
+        let width = 4 * self.window as usize;
+        for side in 0..self.sides as usize {
+            let part = &mut out[width * side..width * side + width];
+            encode_lent(&self.block(side), part);
         }
     }
 
@@ -180,47 +194,6 @@ impl Frontier {
             self.window as usize,
             self.computed as u64,
             &mut self.fold,
-        );
-    }
-
-    // Writes the block of the region that was computed last, and isn't counted yet, where it has
-    // one.
-    fn hand_on(&mut self)
-        requires fits { FitsWindow self.old.window self.old.body }
-        requires sides { self.old.sides ≡ side_count self.old.body }
-        ensures block { (law : Meaning) (layout : LayoutSeen) → self.old.computed < self.old.windows →
-            IsRightAt law layout (self.old.computed + 1) self.old →
-            IsComputed law self.old.window self.old.computed self.old.body →
-            IsBlockOf law layout self.old.number self.old.computed self.new.block.items }
-        ensures right { (law : Meaning) (layout : LayoutSeen) (n : ℕ) →
-            IsRightAt law layout n self.old → IsRightAt law layout n self.new }
-        ensures body { self.new.body ≡ self.old.body }
-        ensures same { IsSameStrand self.old self.new × (self.new.computed ≡ self.old.computed) }
-    {
-        if self.computed < self.windows {
-            self.write();
-        }
-    }
-
-    // Writes the block of the region that was computed last, and isn't counted yet.
-    fn write(&mut self)
-        requires fits { FitsWindow self.old.window self.old.body }
-        requires sides { self.old.sides ≡ side_count self.old.body }
-        ensures block { (law : Meaning) (layout : LayoutSeen) →
-            IsRightAt law layout (self.old.computed + 1) self.old →
-            IsComputed law self.old.window self.old.computed self.old.body →
-            IsBlockOf law layout self.old.number self.old.computed self.new.block.items }
-        ensures right { (law : Meaning) (layout : LayoutSeen) (n : ℕ) →
-            IsRightAt law layout n self.old → IsRightAt law layout n self.new }
-        ensures body { self.new.body ≡ self.old.body }
-        ensures same { IsSameStrand self.old self.new × (self.new.computed ≡ self.old.computed) }
-    {
-        layouts_are_lawful();
-        self.body.write_all(
-            self.window as usize,
-            self.computed as u64,
-            self.sides as usize,
-            &mut self.block,
         );
     }
 }

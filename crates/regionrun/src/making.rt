@@ -15,7 +15,7 @@ ghost use Rattle.regionrun.specs.Lawful.{IsLawful};
 ghost use Rattle.regionrun.specs.Made.{IsNewFrontier, first_marks};
 ghost use Rattle.regionrun.specs.Owned.{owned};
 ghost use Rattle.regionrun.specs.Right.{Keeps};
-ghost use Rattle.regionrun.specs.Surveys.{HasSpans, IsStrandFold, IsSurvey, IsWholeFold};
+ghost use Rattle.regionrun.specs.Surveys.{AreProbed, HasSpans, IsStrandFold, IsSurvey, IsWholeFold};
 ghost use Rattle.strands.specs.Marks.{Marks, marked, or_marked};
 
 use crate::Gate;
@@ -24,37 +24,40 @@ use crate::frontiers::Frontier;
 use crate::gathering::strand_folds_are_parts;
 use crate::lawful::layouts_are_lawful;
 use crate::one_strand::Strand;
+use crate::probed::probed_places;
 use crate::sizes::sizes;
 use crate::strand_folds::{base, strand_fold};
 use crate::surveys::Survey;
-use case_model::{Law, Point};
+use case_model::Law;
 use envelope::{Fold, stands_for_equal_maps};
 use regions::{Shape, layouts_are_sound};
 use std::alloc::{AllocError, Global};
 use strands::{Hub, Seam, Section};
 
 impl Frontier {
-    /// A strand of a survey of which nothing is computed. The error is want of memory.
+    /// A strand of a survey of which nothing is computed; `probed` marks the places that have a
+    /// probe. The error is want of memory.
     pub(crate) fn make<L: Law>(
         alloc: Global,
         law: &L,
         survey: &Survey,
         number: u32,
+        probed: &[bool],
     ) -> Result<Frontier, AllocError>
         requires survey { IsSurvey survey.now.case.now survey.now.mesh.now survey.now.layout.now
             survey.now.probes.now }
         requires mesh { survey.now.mesh.now ≡ (L.meaning law.now).mesh }
         requires there { number < length survey.now.layout.now.shapes }
+        requires probed { AreProbed survey.now.probes.now probed.now }
         ensures { IfOk result (IsNewFrontier survey.now.case.now (L.meaning law.now)
             survey.now.layout.now survey.now.probes.now number) }
     {
         standing(survey, number);
         layouts_are_sound();
         let body = make_body(alloc, law, survey, number)?;
-        let fold = first_fold(alloc, law, survey, number, &body)?;
+        let fold = first_fold(alloc, law, survey, number, &body, probed)?;
         let window = survey.layout.window as u16;
         let sides = survey.layout.sides(survey.mesh, number) as u8;
-        let block = vec![in alloc; Point::Bad; window as usize * sides as usize]?;
         Ok(Frontier {
             number,
             windows: survey.layout.windows as u32,
@@ -63,7 +66,6 @@ impl Frontier {
             sides,
             body,
             fold,
-            block,
         })
     }
 }
@@ -115,6 +117,7 @@ fn first_fold<L: Law>(
     survey: &Survey,
     number: u32,
     body: &Body,
+    probed: &[bool],
 ) -> Result<Fold, AllocError>
     requires survey { IsSurvey survey.now.case.now survey.now.mesh.now survey.now.layout.now
         survey.now.probes.now }
@@ -122,6 +125,7 @@ fn first_fold<L: Law>(
     requires there { number < length survey.now.layout.now.shapes }
     requires keeps { Keeps (L.meaning law.now) survey.now.layout.now 0
         (shape_at survey.now.layout.now number) body.now }
+    requires probed { AreProbed survey.now.probes.now probed.now }
     ensures given { IfOk result (IsStrandFold survey.now.case.now (L.meaning law.now).mesh
         survey.now.layout.now survey.now.probes.now number) }
     ensures stands { IfOk result (λ fold. Stands fold (marked (L.meaning law.now)
@@ -129,7 +133,7 @@ fn first_fold<L: Law>(
 {
     standing(survey, number);
     stands_for_equal_maps();
-    let mut fold = strand_fold(alloc, survey, number)?;
+    let mut fold = strand_fold(alloc, survey, number, probed)?;
     note_first(law, survey.layout.window as usize, body, &mut fold);
     Ok(fold)
 }
@@ -190,11 +194,12 @@ pub fn make_strands<L: Law, G: Gate>(
         AreParts into strands.items) }
 {
     strand_folds_are_parts();
+    let probed = probed_places(alloc, survey.mesh.places, survey.probes)?;
     let count = strand_count(survey);
     let mut strands = Vec::with_capacity(alloc, count as usize)?;
     for number in 0..count {
         let stub = gate.begin(number);
-        let strand = Strand::make(alloc, law, survey, number, stub)?;
+        let strand = Strand::begin(alloc, law, survey, number, stub, &probed)?;
         strands.push(strand)?;
     }
     Ok(strands)

@@ -8,6 +8,7 @@ ghost use Rattle.regionrun.specs.Right.{IsWantedSome, has_loaded, region_count};
 ghost use Rattle.regions.specs.declared.shapes.Layout.{Layout};
 
 use crate::frontiers::Frontier;
+use crate::probed::probed_places;
 use crate::surveys::Survey;
 use crate::{EntryStub, Gate};
 use case_model::Law;
@@ -24,7 +25,7 @@ impl<S: EntryStub> Strand<S> {
     ghost use Rattle.std.specs.Prelude.{IfOk};
     ghost use Rattle.regionrun.specs.Made.{IsNewStrand};
     ghost use Rattle.regionrun.specs.Stubs.{HasStub};
-    ghost use Rattle.regionrun.specs.Surveys.{IsSurvey};
+    ghost use Rattle.regionrun.specs.Surveys.{AreProbed, IsSurvey};
 
     /// A strand of a survey of which nothing is computed, with a stub that has entered nothing. The
     /// error is want of memory.
@@ -44,7 +45,30 @@ impl<S: EntryStub> Strand<S> {
         ensures { IfOk result (IsNewStrand S.strand_of S.entered_of survey.now.case.now
             (L.meaning law.now) survey.now.layout.now survey.now.probes.now number) }
     {
-        let frontier = Frontier::make(alloc, law, survey, number)?;
+        let probed = probed_places(alloc, survey.mesh.places, survey.probes)?;
+        Strand::begin(alloc, law, survey, number, stub, &probed)
+    }
+
+    // As `make`, where the places that have a probe are marked.
+    pub(crate) fn begin<L: Law>(
+        alloc: Global,
+        law: &L,
+        survey: &Survey,
+        number: u32,
+        stub: S,
+        probed: &[bool],
+    ) -> Result<Strand<S>, AllocError>
+        requires survey { IsSurvey survey.now.case.now survey.now.mesh.now survey.now.layout.now
+            survey.now.probes.now }
+        requires mesh { survey.now.mesh.now ≡ (L.meaning law.now).mesh }
+        requires there { number < length survey.now.layout.now.shapes }
+        requires strand { S.strand_of stub ≡ number }
+        requires none { S.entered_of stub ≡ 0 }
+        requires probed { AreProbed survey.now.probes.now probed.now }
+        ensures { IfOk result (IsNewStrand S.strand_of S.entered_of survey.now.case.now
+            (L.meaning law.now) survey.now.layout.now survey.now.probes.now number) }
+    {
+        let frontier = Frontier::make(alloc, law, survey, number, probed)?;
         Ok(Strand {
             frontier,
             stub: Some(stub),

@@ -8,9 +8,10 @@ ghost use Rattle.envelope.specs.Notings.{nothing};
 ghost use Rattle.regions.specs.declared.shapes.Shape.TheVariants.{OfNode};
 ghost use Rattle.regions.specs.Sides.{shape_at};
 ghost use Rattle.regionrun.specs.Right.{end_span, strand_spans};
-ghost use Rattle.regionrun.specs.Surveys.{HasSpans, IsSpanned, IsStrandFold, IsSurvey};
+ghost use Rattle.regionrun.specs.Surveys.{AreProbed, HasSpans, IsSpanned, IsStrandFold, IsSurvey};
 
 use crate::lawful::layouts_are_lawful;
+use crate::probed::may_be_probed;
 use crate::surveys::Survey;
 use case_model::{End, Mesh, accepted_cases_are_kept};
 use envelope::Fold;
@@ -18,11 +19,17 @@ use regions::Shape;
 use std::alloc::{AllocError, Global};
 
 /// The fold of a strand: of its own places and those of its triangles, with the probes that lie
-/// there. The error is want of memory.
-pub(crate) fn strand_fold(alloc: Global, survey: &Survey, number: u32) -> Result<Fold, AllocError>
+/// there; `probed` marks the places that have a probe. The error is want of memory.
+pub(crate) fn strand_fold(
+    alloc: Global,
+    survey: &Survey,
+    number: u32,
+    probed: &[bool],
+) -> Result<Fold, AllocError>
     requires survey { IsSurvey survey.now.case.now survey.now.mesh.now survey.now.layout.now
         survey.now.probes.now }
     requires there { number < length survey.now.layout.now.shapes }
+    requires probed { AreProbed survey.now.probes.now probed.now }
     ensures given { IfOk result (λ fold. IsStrandFold survey.now.case.now survey.now.mesh.now
         survey.now.layout.now survey.now.probes.now number fold) }
     ensures fresh { IfOk result (λ fold. Stands fold nothing) }
@@ -30,7 +37,7 @@ pub(crate) fn strand_fold(alloc: Global, survey: &Survey, number: u32) -> Result
     surveyed(survey, number);
     let shape = survey.layout.shapes.as_slice()[number as usize];
     let spans = spans_of_shape(alloc, survey.mesh, survey.layout.window, shape)?;
-    let probes = probes_within(alloc, &spans, survey.probes)?;
+    let probes = probes_within(alloc, &spans, survey.probes, probed)?;
     Fold::make(alloc, &spans, &probes, survey.case.steps, survey.case.every)
 }
 
@@ -128,15 +135,20 @@ pub(crate) fn base(mesh: &Mesh, pipe: u32) -> u64
     mesh.pipes.as_slice()[pipe as usize].base
 }
 
-// The probes that lie in some spans, in order.
+// The probes that lie in some spans, in order: they are looked at only where one may lie there.
 fn probes_within(
     alloc: Global,
     spans: &[(u64, u64)],
     probes: &[u64],
+    probed: &[bool],
 ) -> Result<Vec<u64>, AllocError>
+    requires { AreProbed probes.now probed.now }
     ensures { IfOk result (λ inside. inside.items ≡ filter (is_within spans.now) probes.now) }
 {
     let mut inside = Vec::new(alloc);
+    if !may_be_probed(spans, probed) {
+        return Ok(inside);
+    }
     for probe in probes {
         if lies_within(spans, *probe) {
             inside.push(*probe)?;

@@ -1,11 +1,11 @@
 //! The next region of a strand: it is entered, fed with the blocks of the strands beside it and
 //! computed.
-ghost use Rattle.std.specs.Prelude.{◌≡◌, ℕ, ◌+◌, ◌-◌, ◌<◌, ◌≤◌, All, Some, false, is_some};
+ghost use Rattle.std.specs.Prelude.{◌≡◌, ℕ, ◌+◌, ◌-◌, ◌<◌, ◌≤◌, Some, false, is_some};
 ghost use Rattle.std.specs.Prelude.{length, slice_index_or, true};
 ghost use Rattle.case_model.specs.Meaning.{Meaning};
-ghost use Rattle.case_model.specs.Range.{IsPoint};
 ghost use Rattle.regionrun.specs.Engine.{AreBeside, IsAtRest, IsCourse};
 ghost use Rattle.regionrun.specs.Handed.{ArePointsFor};
+ghost use Rattle.regionrun.specs.Lent.{lent_size, lent_tells};
 ghost use Rattle.regionrun.specs.Right.{IsFed, IsRight, IsSameStrand};
 ghost use Rattle.regions.specs.Needs.{needs_of};
 ghost use Rattle.regions.specs.Sides.{back_of, is_section, side_of, sides_of};
@@ -14,9 +14,10 @@ ghost use Rattle.schedule.specs.Plans.{net_of};
 
 use crate::Gate;
 use crate::frontiers::Frontier;
+use crate::lawful::layouts_are_lawful;
+use crate::lent::Lent;
 use crate::one_strand::Strand;
-use crate::words::part_for;
-use case_model::{Law, Point};
+use case_model::Law;
 use regions::{Layout, Shape};
 use schedule::Plan;
 
@@ -107,8 +108,8 @@ fn feed<L: Law, G: Gate>(
         return;
     }
     for side in 0..frontier.sides as usize {
-        let points = handed(course, turn, beside, frontier.number, side);
-        frontier.load(course.law, side, points);
+        let block = handed(course, turn, beside, frontier.number, side);
+        frontier.load_lent(course.law, side, &block);
     }
 }
 
@@ -119,14 +120,14 @@ fn needs_blocks(turn: Turn) -> bool
     !turn.of_sections || turn.region != 0
 }
 
-// What the neighbour of a strand at a side has handed to it last.
+// The block of the neighbour of a strand at a side, where it stands.
 fn handed<'a, L: Law, G: Gate>(
     course: &Course<L, G>,
     turn: Turn,
     beside: &Half<'a, G::Stub>,
     number: u32,
     side: usize,
-) -> &'a [Point]
+) -> Lent<'a>
     requires course { IsCourse (L.meaning course.now.law.now) course.now.layout.now
         (net_of course.now.plan.now) }
     requires turn { turn.region < regions_of turn.of_sections course.now.layout.now.windows }
@@ -137,20 +138,18 @@ fn handed<'a, L: Law, G: Gate>(
     requires there { number < length course.now.layout.now.shapes }
     requires side { side
         < sides_of course.now.layout.now (L.meaning course.now.law.now).mesh number }
-    ensures in_range { All IsPoint result.now }
+    requires needed { is_some (needs_of turn.of_sections turn.region) ≡ true }
+    ensures size { lent_size result ≡ course.now.layout.now.window }
     ensures handed { (b : ℕ) → needs_of turn.of_sections turn.region ≡ Some b →
         ArePointsFor (L.meaning course.now.law.now) course.now.layout.now
         (side_of course.now.layout.now (L.meaning course.now.law.now).mesh number side)
         (back_of course.now.layout.now (L.meaning course.now.law.now).mesh number side) b
-        result.now }
+        (lent_tells result) }
 {
     let link = course.plan.link(number, side);
     let found = strand_at(beside, link.strand as usize);
-    part_for(
-        &found.frontier.block,
-        found.frontier.window as usize,
-        link.back as usize,
-    )
+    layouts_are_lawful();
+    found.frontier.block(link.back as usize)
 }
 
 // The strand of a half that has this number.

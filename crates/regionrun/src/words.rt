@@ -1,57 +1,50 @@
 //! Blocks as words.
-ghost use Rattle.std.specs.Prelude.{◌≡◌, ℕ, ◌+◌, ◌*◌, ◌<◌, ◌≤◌, All, length};
+ghost use Rattle.std.specs.Prelude.{◌≡◌, ℕ, ◌+◌, ◌*◌, ◌/◌, ◌<◌, ◌≤◌, length};
 ghost use Rattle.case_model.specs.Range.{IsPoint};
-ghost use Rattle.case_model.specs.Runs.{point_at};
 ghost use Rattle.case_model.specs.Words.{words_of};
 ghost use Rattle.case_model.specs.declared.points.Point.{Point as PointSeen};
-ghost use Rattle.regionrun.specs.Handed.{AreRead, HasWords, IsWritten, part, quad};
+ghost use Rattle.regionrun.specs.Handed.{AreWordsOf, IsWritten, quad, words_tell};
+ghost use Rattle.regionrun.specs.Lent.{lent_size, lent_tells};
 
+use crate::lent::Lent;
 use case_model::{Point, from_words, to_words};
-use regions::WIDEST_WINDOW;
+use strands::Block;
 
-/// Writes the words of points.
-pub(crate) fn encode(points: &[Point], words: &mut [u64])
-    requires room { length words.old ≡ 4 * length points.now }
-    requires in_range { All IsPoint points.now }
-    ensures words { HasWords (length points.now) (point_at points.now) words.new }
-{
-    for index in 0..points.len() {
-        put_point(words, index, &points[index]);
+/// A block that is read from its words, four for each point.
+#[derive(Drop)]
+pub(crate) struct Words<'a> {
+    pub(crate) words: &'a [u64],
+}
+
+impl<'a> Block for Words<'a> {
+    ghost size = { λ block. length block.words.now / 4 };
+
+    ghost tells = { λ block. words_tell block.words.now };
+
+    fn point(&self, number: usize) -> Point {
+        point_in(self.words, number)
     }
 }
 
-/// Reads points from their words; Bad where no point has them.
-pub(crate) fn decode(words: &[u64], points: &mut [Point])
-    requires room { length words.now ≡ 4 * length points.old }
-    ensures read { AreRead (length points.old) words.now points.new }
-    ensures in_range { All IsPoint points.new }
+/// Writes the words of a block that a strand lends: its kind is asked once.
+pub(crate) fn encode_lent(block: &Lent, words: &mut [u64])
+    requires room { length words.old ≡ 4 * lent_size block.now }
+    ensures words { AreWordsOf (lent_size block.now) (lent_tells block.now) words.new }
 {
-    for index in 0..points.len() {
-        points[index] = point_in(words, index);
+    match block {
+        Lent::BySection(block) => encode(block, words),
+        Lent::ByStation(block) => encode(block, words),
     }
 }
 
-/// Reads the part of points that is for one of their sides.
-pub(crate) fn decode_part(words: &[u64], width: usize, side: usize, points: &mut [Point])
-    requires few { width ≤ WIDEST_WINDOW }
-    requires room { length words.now ≡ 4 * width }
-    requires inside { width * side + width ≤ length points.old }
-    requires in_range { All IsPoint points.old }
-    ensures read { AreRead width words.now (part width side points.new) }
-    ensures in_range { All IsPoint points.new }
-    ensures same { length points.new ≡ length points.old }
+// Writes the words of a block.
+fn encode<B: Block>(block: &B, words: &mut [u64])
+    requires room { length words.old ≡ 4 * B.size block.now }
+    ensures words { AreWordsOf (B.size block.now) (B.tells block.now) words.new }
 {
-    decode(words, &mut points[width * side..width * side + width]);
-}
-
-/// The part of a strand's block that is for one of its sides.
-pub(crate) fn part_for(points: &[Point], window: usize, side: usize) -> &[Point]
-    requires window { window ≤ WIDEST_WINDOW }
-    requires inside { window * side + window ≤ length points.now }
-    ensures { result.now ≡ part window side points.now }
-{
-    let from = window * side;
-    &points[from..from + window]
+    for number in 0..words.len() / 4 {
+        put_point(words, number, &block.point(number));
+    }
 }
 
 // Writes the words of a point.

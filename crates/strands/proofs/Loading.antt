@@ -1,10 +1,9 @@
 -- A station's block that a section takes in.
-use Rattle.std.proofs.Common.{◌≡◌, ℕ, ◌+◌, ◌-◌, ◌*◌, ◌/◌, ◌<◌, ◌≤◌, ◌⊎◌, inl, inr, ◌∙◌, ap, sym, subst, refl, arith, Bool, true, false, cond, List, max}
+use Rattle.std.proofs.Common.{◌≡◌, ℕ, ◌+◌, ◌-◌, ◌*◌, ◌/◌, ◌<◌, ◌≤◌, ◌⊎◌, inl, inr, ◌∙◌, ap, sym, subst, refl, arith, Bool, true, false, cond, max}
 use Rattle.std.specs.Prelude.{◌≢◌, nat_eq}
 use Rattle.std.proofs.lemmas.Bool.{eq-eqb, le-ltb, lt-ltb, ne_eqb}
 use Rattle.case_model.specs.declared.points.Point.{Point}
 use Rattle.case_model.specs.Meaning.{Meaning}
-use Rattle.case_model.specs.Runs.{point_at}
 use Rattle.fronts.specs.Bands.{from_ends}
 use Rattle.fronts.specs.Fronts.{Holds, Puts, ever, spot}
 use Rattle.fronts.specs.Stretches.{AreSamePlaces, count_of}
@@ -157,50 +156,54 @@ step-second w s d h = elim (below (2 * d + 1 + 1) w) [
 pub step-alone : (w s d : ℕ) → 2 * d < w → w ≤ 2 * d + 1 → s + (w - d) ≡ s + station_step w (2 * d)
 step-alone w s d h g = rw (eq-eqb (2 * d + 1) w (omega arith)) (omega arith)
 
+-- a point was read as that of number j of a block
+abbrev pub IsRead : (ℕ → Point → Type 0) → ℕ → Point → Type 0
+IsRead tells j point = (p : Point) → tells j p → point ≡ p
+
 -- point number j of the block is that of the rows
 point-of : (law : Meaning) (stretch : Stretch) (left : Bool) (n w s d j step place : ℕ)
-    (points : List Point) (point : Point)
+    (tells : ℕ → Point → Type 0) (point : Point)
     → count_of stretch ≡ n + 1 → j < w → j / 2 ≡ d → place ≡ from_end left n d
-    → step ≡ s + station_step w j → HasPoints w (station_side law stretch left w s) points
-    → point ≡ point_at points j
+    → step ≡ s + station_step w j → HasPoints w (station_side law stretch left w s) tells
+    → IsRead tells j point
     → point ≡ spot law stretch step place
 unfolding station_side
-point-of law stretch left n w s d j step place points point size b half at e has is =
+point-of law stretch left n w s d j step place tells point size b half at e has is =
     let c : count_of stretch - 1 ≡ n = omega arith in
-    is ∙ has.each j b
+    is (station_side law stretch left w s j) (has.each j b)
     ∙ ap (λ z. spot law stretch (s + station_step w j) (from_end left z (j / 2))) c
     ∙ ap (λ z. spot law stretch (s + station_step w j) (from_end left n z)) half
     ∙ ap (spot law stretch (s + station_step w j)) (sym at)
     ∙ ap (λ t. spot law stretch t place) (sym e)
 
 pub point-first : (law : Meaning) (stretch : Stretch) (left : Bool) (n w s d place : ℕ)
-    (points : List Point) (point : Point)
+    (tells : ℕ → Point → Type 0) (point : Point)
     → count_of stretch ≡ n + 1 → 2 * d + 1 < w → place ≡ from_end left n d
-    → HasPoints w (station_side law stretch left w s) points
-    → point ≡ point_at points (2 * d)
+    → HasPoints w (station_side law stretch left w s) tells
+    → IsRead tells (2 * d) point
     → point ≡ spot law stretch (s + (w - d) - 1) place
-point-first law stretch left n w s d place points point size b at has is =
-    point-of law stretch left n w s d (2 * d) (s + (w - d) - 1) place points point size
+point-first law stretch left n w s d place tells point size b at has is =
+    point-of law stretch left n w s d (2 * d) (s + (w - d) - 1) place tells point size
     (omega arith) (omega arith) at (step-first w s d b) has is
 
 pub point-second : (law : Meaning) (stretch : Stretch) (left : Bool) (n w s d place : ℕ)
-    (points : List Point) (point : Point)
+    (tells : ℕ → Point → Type 0) (point : Point)
     → count_of stretch ≡ n + 1 → 2 * d + 1 < w → place ≡ from_end left n d
-    → HasPoints w (station_side law stretch left w s) points
-    → point ≡ point_at points (2 * d + 1)
+    → HasPoints w (station_side law stretch left w s) tells
+    → IsRead tells (2 * d + 1) point
     → point ≡ spot law stretch (s + (w - d)) place
-point-second law stretch left n w s d place points point size b at has is =
-    point-of law stretch left n w s d (2 * d + 1) (s + (w - d)) place points point size b
+point-second law stretch left n w s d place tells point size b at has is =
+    point-of law stretch left n w s d (2 * d + 1) (s + (w - d)) place tells point size b
     (omega arith) at (step-second w s d b) has is
 
 pub point-alone : (law : Meaning) (stretch : Stretch) (left : Bool) (n w s d place : ℕ)
-    (points : List Point) (point : Point)
+    (tells : ℕ → Point → Type 0) (point : Point)
     → count_of stretch ≡ n + 1 → 2 * d < w → w ≤ 2 * d + 1 → place ≡ from_end left n d
-    → HasPoints w (station_side law stretch left w s) points
-    → point ≡ point_at points (2 * d)
+    → HasPoints w (station_side law stretch left w s) tells
+    → IsRead tells (2 * d) point
     → point ≡ spot law stretch (s + (w - d)) place
-point-alone law stretch left n w s d place points point size b g at has is =
-    point-of law stretch left n w s d (2 * d) (s + (w - d)) place points point size b
+point-alone law stretch left n w s d place tells point size b g at has is =
+    point-of law stretch left n w s d (2 * d) (s + (w - d)) place tells point size b
     (omega arith) at (step-alone w s d b g) has is
 
 -- ---- all distances
@@ -241,18 +244,17 @@ loading-all law stretch left n w s k front size e a bare h = record {
 }
 
 -- the block of a stretch of the same places
-pub same-points : (law : Meaning) (old new : Stretch) (left : Bool) (w s : ℕ) (points : List Point)
+pub same-points : (law : Meaning) (old new : Stretch) (left : Bool) (w s : ℕ) (tells : ℕ → Point → Type 0)
     → AreSamePlaces old new
-    → HasPoints w (station_side law old left w s) points
-    → HasPoints w (station_side law new left w s) points
+    → HasPoints w (station_side law old left w s) tells
+    → HasPoints w (station_side law new left w s) tells
 unfolding station_side
-same-points law old new left w s points same h = record {
-  each = λ j b.
-      h.each j b
-      ∙ (ap (λ z. spot law old (s + station_step w j) (from_end left (z - 1) (j / 2)))
+same-points law old new left w s tells same h = record {
+  each = λ j b. subst (tells j)
+      (ap (λ z. spot law old (s + station_step w j) (from_end left (z - 1) (j / 2)))
       (sym same.count_is)
       ∙ sym (same-spot law old new (s + station_step w j)
-      (from_end left (count_of new - 1) (j / 2)) same));
+      (from_end left (count_of new - 1) (j / 2)) same)) (h.each j b);
 }
 
 pub end-inside : (left : Bool) (n d count : ℕ) → d ≤ n → count ≡ n + 1 → from_end left n d < count

@@ -1,21 +1,21 @@
 -- The blocks of a station: what it takes in, distance by distance, and what it hands on.
 use Rattle.std.proofs.Common.{◌≡◌, ℕ, ◌+◌, ◌-◌, ◌*◌, ◌/◌, ◌<◌, ◌≤◌, ◌⊎◌, inl, inr, ◌∙◌, ap, sym}
-use Rattle.std.proofs.Common.{refl, arith, Bool, true, false, List}
+use Rattle.std.proofs.Common.{refl, arith, subst, Bool, true, false, if◌then◌else◌}
 use Rattle.std.specs.Prelude.{◌≢◌}
 use Rattle.std.proofs.Math.Bool.{and-false}
 use Rattle.std.proofs.lemmas.Bool.{eq-eqb, le-leb, le-ltb, lt-leb, lt-ltb, ne_eqb}
 use Rattle.case_model.specs.declared.points.Point.{Point}
 use Rattle.case_model.specs.Meaning.{Meaning}
-use Rattle.case_model.specs.Runs.{point_at}
 use Rattle.fronts.specs.Bands.{from_place}
 use Rattle.fronts.specs.Fronts.{Holds, Puts, fan, fan_since, spot}
 use Rattle.fronts.specs.Stretches.{AreSamePlaces, count_of, kept}
 use Rattle.fronts.specs.declared.stretches.Stretch.{Stretch}
 use Rattle.fronts.proofs.Raising.{same-spot}
-use Rattle.strands.proofs.Loading.{with, with-here, with-there}
+use Rattle.strands.proofs.Loading.{IsRead, with, with-here, with-there}
 use Rattle.strands.specs.Beside.{HasBeside, IsTriangle, beside, inner_side, is_beside, outer_side}
-use Rattle.strands.specs.Beside.{taken_front, taken_since}
+use Rattle.strands.specs.Beside.{station_tells, taken_front, taken_since}
 use Rattle.strands.specs.Blocks.{HasPoints, station_step}
+use Rattle.strands.specs.declared.handed.StationBlock.{StationBlock}
 
 below : (x y : ℕ) → (x < y) ⊎ (y ≤ x)
 below x y = grind arith
@@ -181,54 +181,54 @@ puts-one right at w s d count place since front is b =
 
 -- point number j of the block is that of the rows
 outer-point : (law : Meaning) (stretch : Stretch) (right : Bool) (at w s d j step place : ℕ)
-    (points : List Point) (point : Point)
+    (tells : ℕ → Point → Type 0) (point : Point)
     → j < w → j / 2 + 1 ≡ d → place ≡ beside right at d → step ≡ s + (j + 1) / 2
-    → HasPoints w (outer_side law stretch right at s) points
-    → point ≡ point_at points j
+    → HasPoints w (outer_side law stretch right at s) tells
+    → IsRead tells j point
     → point ≡ spot law stretch step place
 unfolding outer_side
-outer-point law stretch right at w s d j step place points point b half is e has read =
-    read ∙ has.each j b
+outer-point law stretch right at w s d j step place tells point b half is e has read =
+    read (outer_side law stretch right at s j) (has.each j b)
     ∙ ap (λ z. spot law stretch (s + (j + 1) / 2) (beside right at z)) half
     ∙ ap (spot law stretch (s + (j + 1) / 2)) (sym is)
     ∙ ap (λ t. spot law stretch t place) (sym e)
 
 pub outer-first : (law : Meaning) (stretch : Stretch) (right : Bool) (at w s d count place : ℕ)
-    (points : List Point) (point : Point)
+    (tells : ℕ → Point → Type 0) (point : Point)
     → IsNear right at w d count place
-    → HasPoints w (outer_side law stretch right at s) points
-    → point ≡ point_at points (2 * d - 2)
+    → HasPoints w (outer_side law stretch right at s) tells
+    → IsRead tells (2 * (d - 1)) point
     → point ≡ spot law stretch (s + (d - 1)) place
-outer-first law stretch right at w s d count place points point is has read =
+outer-first law stretch right at w s d count place tells point is has read =
     let a : 1 ≤ d = is.some in
     let n : 2 * d ≤ w + 1 = is.near in
-    outer-point law stretch right at w s d (2 * d - 2) (s + (d - 1)) place points point
+    outer-point law stretch right at w s d (2 * (d - 1)) (s + (d - 1)) place tells point
     (omega arith) (omega arith)
     is.place_is (omega arith) has read
 
 pub outer-second : (law : Meaning) (stretch : Stretch) (right : Bool) (at w s d count place : ℕ)
-    (points : List Point) (point : Point)
-    → IsNear right at w d count place → 2 * d - 1 < w
-    → HasPoints w (outer_side law stretch right at s) points
-    → point ≡ point_at points (2 * d - 1)
+    (tells : ℕ → Point → Type 0) (point : Point)
+    → IsNear right at w d count place → 2 * (d - 1) + 1 < w
+    → HasPoints w (outer_side law stretch right at s) tells
+    → IsRead tells (2 * (d - 1) + 1) point
     → point ≡ spot law stretch (s + (d - 1) + 1) place
-outer-second law stretch right at w s d count place points point is b has read =
+outer-second law stretch right at w s d count place tells point is b has read =
     let a : 1 ≤ d = is.some in
-    outer-point law stretch right at w s d (2 * d - 1) (s + (d - 1) + 1) place points point b
+    outer-point law stretch right at w s d (2 * (d - 1) + 1) (s + (d - 1) + 1) place tells point b
     (omega arith)
     is.place_is (omega arith) has read
 
 -- the block of a stretch of the same places
 pub same-outer : (law : Meaning) (old new : Stretch) (right : Bool) (at w s : ℕ)
-    (points : List Point)
+    (tells : ℕ → Point → Type 0)
     → AreSamePlaces old new
-    → HasPoints w (outer_side law old right at s) points
-    → HasPoints w (outer_side law new right at s) points
+    → HasPoints w (outer_side law old right at s) tells
+    → HasPoints w (outer_side law new right at s) tells
 unfolding outer_side
-same-outer law old new right at w s points same h = record {
-  each =
-      λ j b. h.each j b
-      ∙ sym (same-spot law old new (s + (j + 1) / 2) (beside right at (j / 2 + 1)) same);
+same-outer law old new right at w s tells same h = record {
+  each = λ j b. subst (tells j)
+      (sym (same-spot law old new (s + (j + 1) / 2) (beside right at (j / 2 + 1)) same))
+      (h.each j b);
 }
 
 -- ---- all distances
@@ -270,16 +270,30 @@ inner-more law stretch right at w s j since front a b is h =
     (nearer right at ((w - 1) / 2) (j / 2) (count_of stretch) a (omega arith)))
     (omega arith) (omega arith) (omega arith)
 
--- a point that is kept at this step and distance is the block's
-pub inner-is : (law : Meaning) (stretch : Stretch) (right : Bool) (at w s j step place d : ℕ)
-    (since front : ℕ → ℕ) (point : Point)
-    → HasBeside right at ((w - 1) / 2) (count_of stretch) → j < w
-    → IsTriangle right at w s since front → Holds law since front stretch
-    → step ≡ s + station_step w j → d ≡ j / 2 → place ≡ beside right at d
-    → point ≡ kept stretch step place
-    → point ≡ inner_side law stretch right at w s j
-unfolding inner_side
-inner-is law stretch right at w s j step place d since front point a b is h e g f p =
-    p ∙ ap (λ t. kept stretch t place) e
-    ∙ ap (kept stretch (s + station_step w j)) (f ∙ ap (beside right at) g)
-    ∙ inner-more law stretch right at w s j since front a b is h
+-- the block that a station lends
+pub inner-lent : (law : Meaning) (block : StationBlock) (since front : ℕ → ℕ)
+    → HasBeside block.right block.at ((block.window - 1) / 2) (count_of block.stretch.now)
+    → IsTriangle block.right block.at block.window block.start since front
+    → Holds law since front block.stretch.now
+    → HasPoints block.window
+    (inner_side law block.stretch.now block.right block.at block.window block.start)
+    (station_tells block)
+unfolding inner_side station_tells
+inner-lent law block since front inside is h = record {
+  each = λ j b. inner-more law block.stretch.now block.right block.at block.window block.start j
+      since front inside b is h;
+}
+
+-- a side of a station has so many places if those at that side are there
+pub room-beside : (right : Bool) (at far count : ℕ)
+    → HasBeside right at far count
+    → (at + (if right then far else 0) < count) × ((if right then 0 else far) ≤ at)
+room-beside true at far count h = (omega arith, omega arith)
+room-beside false at far count h = let low : far ≤ at = h.0 in (omega arith, omega arith)
+
+-- and then it has those of the points of its block
+pub has-beside : (right : Bool) (at far count d : ℕ)
+    → at + (if right then far else 0) < count → (if right then 0 else far) ≤ at → d ≤ far
+    → HasBeside right at d count
+has-beside true at far count d a b c = omega arith
+has-beside false at far count d a b c = (omega arith, omega arith)

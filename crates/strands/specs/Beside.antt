@@ -7,7 +7,9 @@ use Rattle.case_model.specs.Meaning.{Meaning}
 use Rattle.fronts.specs.Bands.{from_place}
 use Rattle.fronts.specs.Fronts.{fan, fan_since, spot}
 use Rattle.fronts.specs.declared.stretches.Stretch.{Stretch}
+use Rattle.fronts.specs.Stretches.{kept}
 use Rattle.strands.specs.Blocks.{station_step}
+use Rattle.strands.specs.declared.handed.StationBlock.{StationBlock}
 
 -- the place at a distance to the right or to the left of place `at`
 abbrev pub beside : Bool → ℕ → ℕ → ℕ
@@ -28,6 +30,12 @@ outer_side law stretch right at s j =
 unfoldable pub inner_side : Meaning → Stretch → Bool → ℕ → ℕ → ℕ → ℕ → Point
 inner_side law stretch right at w s j =
     spot law stretch (s + station_step w j) (beside right at (j / 2))
+
+-- what the stretch of a station keeps where the point of a number of its block stands
+unfoldable pub station_tells : StationBlock → ℕ → Point → Type 0
+station_tells block j point =
+    kept block.stretch.now (block.start + station_step block.window j)
+    (beside block.right block.at (j / 2)) ≡ point
 
 -- place x lies on this side of place `at`, at a distance of 1 to `far`
 abbrev pub is_beside : Bool → ℕ → ℕ → ℕ → Bool

@@ -1,17 +1,17 @@
 -- Blocks: the points that a strand hands on to one of its sides.
 use Rattle.std.specs.Prelude.{◌≡◌, ℕ, ◌+◌, ◌-◌, ◌*◌, ◌/◌, ◌<◌, ◌≤◌, ◌%◌, ◌==◌, Bool, true, false}
-use Rattle.std.specs.Prelude.{List, if◌then◌else◌, max, nat_lt}
+use Rattle.std.specs.Prelude.{if◌then◌else◌, max, nat_lt}
 use Rattle.case_model.specs.declared.points.Point.{Point}
 use Rattle.case_model.specs.Meaning.{Meaning}
-use Rattle.case_model.specs.Runs.{point_at}
 use Rattle.fronts.specs.Bands.{from_ends}
 use Rattle.fronts.specs.Fronts.{spot}
-use Rattle.fronts.specs.Stretches.{count_of}
+use Rattle.fronts.specs.Stretches.{count_of, kept}
 use Rattle.fronts.specs.declared.stretches.Stretch.{Stretch}
+use Rattle.strands.specs.declared.handed.SectionBlock.{SectionBlock}
 
--- a list begins with so many points
-pub record HasPoints (count : ℕ) (point : ℕ → Point) (points : List Point) : Type 0 where
-  pub each : (j : ℕ) → j < count → point_at points j ≡ point j
+-- a block begins with so many points: `tells` says which point has a number
+pub record HasPoints (count : ℕ) (point : ℕ → Point) (tells : ℕ → Point → Type 0) : Type 0 where
+  pub each : (j : ℕ) → j < count → tells j (point j)
 
 -- the place of a stretch of n reaches at a distance from its left or its right end
 abbrev pub from_end : Bool → ℕ → ℕ → ℕ
@@ -23,6 +23,12 @@ from_end false n d = n - d
 unfoldable pub section_side : Meaning → Stretch → Bool → ℕ → ℕ → Point
 section_side law stretch left s j =
     spot law stretch (s + (j + 1) / 2) (from_end left (count_of stretch - 1) (j / 2 + 1))
+
+-- what the stretch of a section keeps where the point of a number of its block stands
+unfoldable pub section_tells : SectionBlock → ℕ → Point → Type 0
+section_tells block j point =
+    kept block.stretch.now (block.start + (j + 1) / 2)
+    (from_end block.left (count_of block.stretch.now - 1) (j / 2 + 1)) ≡ point
 
 -- the points of a station's block for a side, over the window of w steps from step s on: two at
 -- each distance from 0 on, the earlier first; where w is odd, the last distance has one point alone

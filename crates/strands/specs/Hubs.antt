@@ -111,14 +111,14 @@ pub record IsSideLoaded (side : ℕ) (old new : Hub) : Type 0 where
   pub others : (i : ℕ) (d : Spoke) → i ≢ side
       → (slice_index_or new.spokes.items i d).loaded ≡ (slice_index_or old.spokes.items i d).loaded
 
--- the points are the block that side number `side` takes in, or the one that it hands on
-abbrev pub HasOuter : Meaning → ℕ → ℕ → ℕ → Hub → List Point → Type 0
-HasOuter law w s side hub points =
-    (d : Spoke) → HasPoints w (spoke_outer law w s (slice_index_or hub.spokes.items side d)) points
+-- a block has the points that side number `side` takes in, or those that it hands on
+abbrev pub HasOuter : Meaning → ℕ → ℕ → ℕ → Hub → (ℕ → Point → Type 0) → Type 0
+HasOuter law w s side hub tells =
+    (d : Spoke) → HasPoints w (spoke_outer law w s (slice_index_or hub.spokes.items side d)) tells
 
-abbrev pub HasInner : Meaning → ℕ → ℕ → ℕ → Hub → List Point → Type 0
-HasInner law w s side hub points =
-    (d : Spoke) → HasPoints w (spoke_inner law w s (slice_index_or hub.spokes.items side d)) points
+abbrev pub HasInner : Meaning → ℕ → ℕ → ℕ → Hub → (ℕ → Point → Type 0) → Type 0
+HasInner law w s side hub tells =
+    (d : Spoke) → HasPoints w (spoke_inner law w s (slice_index_or hub.spokes.items side d)) tells
 
 -- the fold has the node, and each spoke's end and triangle
 pub record NotesHub (hub : Hub) (fold : Fold) : Type 0 where

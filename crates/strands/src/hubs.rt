@@ -10,6 +10,7 @@ ghost use Rattle.envelope.specs.Cells.{is_within};
 ghost use Rattle.envelope.specs.Folds.{IsSameFold, Stands, spans_of};
 ghost use Rattle.fronts.specs.Fronts.{spot};
 ghost use Rattle.fronts.specs.Stretches.{count_of};
+ghost use Rattle.strands.specs.Beside.{station_tells};
 ghost use Rattle.strands.specs.Hubs.{AreNewSpokes, AreSized, EachSpoke, HasInner, HasOuter};
 ghost use Rattle.strands.specs.Hubs.{IsForWindow, IsHubAfter, IsHubAt, IsHubNode, IsHubStepped};
 ghost use Rattle.strands.specs.Hubs.{IsLoaded, IsNewHub, IsSideLoaded, NotesHub, spokes_of};
@@ -20,6 +21,7 @@ ghost use Rattle.strands.specs.Spokes.{NotesSpoke, end_place, ends_marks, spokes
 ghost use Rattle.strands.specs.Stations.{half};
 ghost use Rattle.strands.specs.declared.spokes.Spoke.{Spoke as SpokeSeen};
 
+use crate::handed::{Block, StationBlock};
 use crate::ranges::keeps_range;
 use crate::spokes::{Spoke, WindowStep};
 use case_model::{Law, MOST_ENDS, Mesh, NodeState, Point};
@@ -75,18 +77,17 @@ impl Hub {
 
     /// Takes the block of the section at one side in, over the window of so many steps after
     /// `start`. Where it is loaded already, nothing changes.
-    pub fn load(&mut self, side: usize, window: usize, start: u64, points: &[Point])
+    pub fn load<B: Block>(&mut self, side: usize, window: usize, start: u64, block: &B)
         requires there { side < length (spokes_of self.old) }
-        requires each { length points.now ≡ window }
-        requires in_range { All IsPoint points.now }
+        requires each { B.size block.now ≡ window }
         requires size { IsForWindow window self.old }
         requires room { start + window < 2 ^ 64 }
         ensures loaded { IsSideLoaded side self.old self.new }
         ensures at { (law : Meaning) → IsHubAt law window start self.old →
-            HasOuter law window start side self.old points.now →
+            HasOuter law window start side self.old (B.tells block.now) →
             IsHubAt law window start self.new }
     {
-        self.spokes[side].load(window, start, points);
+        self.spokes[side].load(window, start, block);
     }
 
     /// Computes the window of so many steps after `start`, of which the blocks of all sides are
@@ -117,19 +118,17 @@ impl Hub {
         }
     }
 
-    /// Writes the block of one side for the section there, over the window of so many steps after
-    /// `start`, which was computed.
-    pub fn write(&self, side: usize, window: usize, start: u64, out: &mut [Point])
+    /// The block of one side for the section there, over the window of so many steps after
+    /// `start`, which was computed; it is read where its points stand.
+    pub fn block(&self, side: usize, window: usize, start: u64) -> StationBlock
         requires there { side < length (spokes_of self.now) }
-        requires each { length out.old ≡ window }
         requires size { IsForWindow window self.now }
         requires room { start + window < 2 ^ 64 }
         ensures points { (law : Meaning) → IsHubAfter law window start window self.now →
-            HasInner law window start side self.now out.new }
-        ensures in_range { All IsPoint out.new }
-        ensures same { length out.new ≡ length out.old }
+            HasInner law window start side self.now (station_tells result) }
+        ensures size { result.window ≡ window }
     {
-        self.spokes[side].write(window, start, out);
+        self.spokes[side].block(window, start)
     }
 
     // One step of a window. `near` and `ends` are written over.

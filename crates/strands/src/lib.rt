@@ -4,6 +4,7 @@
 
 mod besides;
 mod blocks;
+mod handed;
 mod hubs;
 mod ranges;
 mod seams;
@@ -13,8 +14,9 @@ mod starts;
 mod stations;
 mod tents;
 
-pub use besides::{load_beside, write_beside};
-pub use blocks::{load_side, write_side};
+pub use besides::load_beside;
+pub use blocks::load_side;
+pub use handed::{Block, SectionBlock, StationBlock};
 pub use hubs::Hub;
 pub use seams::Seam;
 pub use sections::{advance, advance_region, advance_start};

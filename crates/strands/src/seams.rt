@@ -1,9 +1,10 @@
 //! The strand of a seam: a place where a pipe is cut, and its triangles in the sections beside it.
 ghost use Rattle.std.specs.Prelude.{◌≡◌};
 
-use crate::besides::{load_beside, write_beside};
+use crate::besides::load_beside;
+use crate::handed::{Block, StationBlock};
 use crate::stations::advance_seam;
-use case_model::{Law, Point};
+use case_model::Law;
 use envelope::{Fold, numbers_tell_places, stands_for_equal_maps};
 use fronts::Stretch;
 use std::alloc::{AllocError, Global};
@@ -19,14 +20,13 @@ pub struct Seam {
 
 impl Seam {
     ghost use Rattle.std.specs.Prelude.{ℕ, ◌+◌, ◌-◌, ◌*◌, ◌/◌, ◌^◌, ◌<◌, ◌≤◌, length, IfOk};
-    ghost use Rattle.std.specs.Prelude.{All, true, false};
+    ghost use Rattle.std.specs.Prelude.{true, false};
     ghost use Rattle.case_model.specs.Meaning.{Meaning};
     ghost use Rattle.case_model.specs.Mesh.{IsNumbered, base_of, reaches};
-    ghost use Rattle.case_model.specs.Range.{IsPoint};
     ghost use Rattle.envelope.specs.Cells.{AreInOneSpan};
     ghost use Rattle.envelope.specs.Folds.{IsSameFold, Stands, spans_of};
     ghost use Rattle.fronts.specs.Stretches.{AreSamePlaces, count_of};
-    ghost use Rattle.strands.specs.Beside.{inner_side, outer_side};
+    ghost use Rattle.strands.specs.Beside.{inner_side, outer_side, station_tells};
     ghost use Rattle.strands.specs.Marks.{Marks, is_between, is_only, marked, or_marked};
     ghost use Rattle.strands.specs.Seams.{IsLoaded, IsSeamAt, IsSeamDone, IsSeamOf};
     ghost use Rattle.strands.specs.Seams.{has_block, number_of_seam, stretch_of};
@@ -83,24 +83,23 @@ impl Seam {
 
     /// Takes the block of the section at one side in, for the window of so many steps after
     /// `start`. Where it is loaded already this changes nothing.
-    pub fn load(&mut self, right: bool, window: usize, start: u64, points: &[Point])
-        requires each { length points.now ≡ window }
-        requires in_range { All IsPoint points.now }
+    pub fn load<B: Block>(&mut self, right: bool, window: usize, start: u64, block: &B)
+        requires each { B.size block.now ≡ window }
         requires size { count_of (stretch_of self.old) ≡ 2 * half window + 1 }
         requires room { start + window < 2 ^ 64 }
         ensures loaded { IsLoaded right self.old self.new }
         ensures holds { (law : Meaning) → IsSeamAt law window start self.old →
             HasPoints window (outer_side law (stretch_of self.old) right (half window) start)
-            points.now → IsSeamAt law window start self.new }
+            (B.tells block.now) → IsSeamAt law window start self.new }
     {
         let at = window.div_ceil(2);
         if right {
             if !self.right {
-                load_beside(&mut self.stretch, true, at, window, start, points);
+                load_beside(&mut self.stretch, true, at, window, start, block);
                 self.right = true;
             }
         } else if !self.left {
-            load_beside(&mut self.stretch, false, at, window, start, points);
+            load_beside(&mut self.stretch, false, at, window, start, block);
             self.left = true;
         }
     }
@@ -127,18 +126,17 @@ impl Seam {
         self.right = false;
     }
 
-    /// Writes the seam's block for one side, of the window that was computed last.
-    pub fn write(&self, right: bool, window: usize, start: u64, out: &mut [Point])
-        requires each { length out.old ≡ window }
+    /// The seam's block for one side, of the window that was computed last, read where its points
+    /// stand.
+    pub fn block(&self, right: bool, window: usize, start: u64) -> StationBlock
         requires some { 1 ≤ window }
         requires size { count_of (stretch_of self.now) ≡ 2 * half window + 1 }
         requires room { start + window < 2 ^ 64 }
         ensures points { (law : Meaning) → IsSeamDone law window start self.now →
             HasPoints window (inner_side law (stretch_of self.now) right (half window) window start)
-            out.new }
-        ensures in_range { All IsPoint out.new }
-        ensures same { length out.new ≡ length out.old }
+            (station_tells result) }
+        ensures size { result.window ≡ window }
     {
-        write_beside(&self.stretch, right, window.div_ceil(2), window, start, out);
+        StationBlock::lend(&self.stretch, right, window.div_ceil(2), window, start)
     }
 }

@@ -1,6 +1,6 @@
 //! A spoke of a node: the places of one pipe from its end at the node inward.
 ghost use Rattle.std.specs.Prelude.{◌≡◌, ℕ, ◌+◌, ◌-◌, ◌*◌, ◌^◌, ◌<◌, ◌≤◌, length, IfOk};
-ghost use Rattle.std.specs.Prelude.{All, true, false};
+ghost use Rattle.std.specs.Prelude.{true, false};
 ghost use Rattle.case_model.specs.Meaning.{Meaning};
 ghost use Rattle.case_model.specs.Mesh.{IsNumbered, reaches};
 ghost use Rattle.case_model.specs.Range.{IsPoint};
@@ -13,9 +13,11 @@ ghost use Rattle.strands.specs.Spokes.{IsBeside, IsSpokeStepped, run_low, spoke_
 ghost use Rattle.strands.specs.Marks.{Marks, is_only, marked, or_marked};
 ghost use Rattle.strands.specs.Sections.{IsAdvanced, IsNumberedLine};
 ghost use Rattle.strands.specs.Stations.{half};
+ghost use Rattle.strands.specs.Beside.{station_tells};
 ghost use Rattle.strands.specs.Blocks.{HasPoints};
 
-use crate::besides::{load_beside, write_beside};
+use crate::besides::load_beside;
+use crate::handed::{Block, StationBlock};
 use case_model::{End, Law, Mesh, Point};
 use envelope::{Fold, numbers_tell_places, stands_for_equal_maps};
 use fronts::Stretch;
@@ -82,38 +84,35 @@ impl Spoke {
 
     /// Takes the block of the section in, over the window of so many steps after `start`. Where it
     /// is loaded already, nothing changes.
-    pub(crate) fn load(&mut self, window: usize, start: u64, points: &[Point])
-        requires each { length points.now ≡ window }
-        requires in_range { All IsPoint points.now }
+    pub(crate) fn load<B: Block>(&mut self, window: usize, start: u64, block: &B)
+        requires each { B.size block.now ≡ window }
         requires some { 1 ≤ window }
         requires size { count_of self.old.stretch ≡ half window + 1 }
         requires room { start + window < 2 ^ 64 }
         ensures same { IsSameSpoke self.old self.new }
         ensures loaded { self.new.loaded ≡ true }
         ensures at { (law : Meaning) → IsSpokeAt law window start self.old →
-            HasPoints window (spoke_outer law window start self.old) points.now →
+            HasPoints window (spoke_outer law window start self.old) (B.tells block.now) →
             IsSpokeAt law window start self.new }
     {
         if !self.loaded {
             let at = self.end();
-            load_beside(&mut self.stretch, !self.last, at, window, start, points);
+            load_beside(&mut self.stretch, !self.last, at, window, start, block);
             self.loaded = true;
         }
     }
 
-    /// Writes the block of the node for the section on this pipe, over the window of so many steps
-    /// after `start`.
-    pub(crate) fn write(&self, window: usize, start: u64, out: &mut [Point])
-        requires each { length out.old ≡ window }
+    /// The block of the node for the section on this pipe, over the window of so many steps after
+    /// `start`, read where its points stand.
+    pub(crate) fn block(&self, window: usize, start: u64) -> StationBlock
         requires some { 1 ≤ window }
         requires size { count_of self.now.stretch ≡ half window + 1 }
         requires room { start + window < 2 ^ 64 }
         ensures points { (law : Meaning) → IsSpokeAfter law window start window self.now →
-            HasPoints window (spoke_inner law window start self.now) out.new }
-        ensures in_range { All IsPoint out.new }
-        ensures same { length out.new ≡ length out.old }
+            HasPoints window (spoke_inner law window start self.now) (station_tells result) }
+        ensures size { result.window ≡ window }
     {
-        write_beside(&self.stretch, !self.last, self.end(), window, start, out);
+        StationBlock::lend(&self.stretch, !self.last, self.end(), window, start)
     }
 
     // A spoke of which no point is known.

@@ -1,10 +1,8 @@
 //! The strand of a section: how its tent goes from one window to the next, by the blocks of the
 //! stations at its ends.
 ghost use Rattle.std.specs.Prelude.{◌≡◌, ◌≢◌, ℕ, ◌+◌, ◌-◌, ◌*◌, ◌^◌, ◌<◌, ◌≤◌, length, IfOk};
-ghost use Rattle.std.specs.Prelude.{All};
 ghost use Rattle.case_model.specs.Meaning.{Meaning};
 ghost use Rattle.case_model.specs.Mesh.{IsNumbered, base_of, reaches as reaches_of};
-ghost use Rattle.case_model.specs.Range.{IsPoint};
 ghost use Rattle.envelope.specs.Folds.{IsSameFold, Stands};
 ghost use Rattle.fronts.specs.Fronts.{ever, loaded, risen, tent};
 ghost use Rattle.fronts.specs.Stretches.{IsStretchOf, count_of};
@@ -12,12 +10,13 @@ ghost use Rattle.strands.specs.Marks.{Marks, marked, or_marked};
 ghost use Rattle.strands.specs.Sections.{IsAdvanced, NotesInside};
 ghost use Rattle.strands.specs.Tents.{IsFed, IsFreshSection, IsSectionAt, IsUnfed, TakesBlock};
 ghost use Rattle.strands.specs.Tents.{has_block, starts_inside};
-ghost use Rattle.strands.specs.Blocks.{HasPoints, section_side, station_side};
+ghost use Rattle.strands.specs.Blocks.{HasPoints, section_side, section_tells, station_side};
 
-use crate::blocks::{load_side, write_side};
+use crate::blocks::load_side;
+use crate::handed::{Block, SectionBlock};
 use crate::sections::{advance_region, advance_start};
 use crate::starts::put_starts;
-use case_model::{Law, Point};
+use case_model::Law;
 use envelope::{Fold, numbers_tell_places, stands_for_equal_maps};
 use fronts::Stretch;
 use std::alloc::{AllocError, Global};
@@ -79,18 +78,18 @@ impl Section {
 
     /// Takes the block of the station at the left or the right in, over the window of so many steps
     /// after `start`; where it is loaded already nothing changes.
-    pub fn load(&mut self, left: bool, window: usize, start: u64, points: &[Point])
-        requires each { length points.now ≡ window }
-        requires in_range { All IsPoint points.now }
+    pub fn load<B: Block>(&mut self, left: bool, window: usize, start: u64, block: &B)
+        requires each { B.size block.now ≡ window }
         requires long { window + 1 ≤ count_of self.old.stretch }
         requires room { start + window < 2 ^ 64 }
         ensures takes { TakesBlock left self.old self.new }
         ensures at { (law : Meaning) → IsSectionAt law window start self.old →
-            HasPoints window (station_side law self.old.stretch left window start) points.now →
+            HasPoints window (station_side law self.old.stretch left window start)
+            (B.tells block.now) →
             IsSectionAt law window start self.new }
     {
         if !self.has(left) {
-            load_side(&mut self.stretch, left, window, start, points);
+            load_side(&mut self.stretch, left, window, start, block);
             self.left |= left;
             self.right |= !left;
         }
@@ -135,17 +134,16 @@ impl Section {
         self.right = false;
     }
 
-    /// Writes the block for the station at the left or the right, over the window of so many steps
-    /// after `start`.
-    pub fn write(&self, left: bool, window: usize, start: u64, out: &mut [Point])
-        requires each { length out.old ≡ window }
+    /// The block for the station at the left or the right, over the window of so many steps after
+    /// `start`, read where its points stand.
+    pub fn block(&self, left: bool, window: usize, start: u64) -> SectionBlock
         requires long { window + 1 ≤ count_of self.now.stretch }
         requires room { start + window < 2 ^ 64 }
-        ensures points { (law : Meaning) → IsSectionAt law window start self.now → IsUnfed self.now →
-            HasPoints window (section_side law self.now.stretch left start) out.new }
-        ensures in_range { All IsPoint out.new }
-        ensures same { length out.new ≡ length out.old }
+        ensures points { (law : Meaning) → IsSectionAt law window start self.now →
+            IsUnfed self.now →
+            HasPoints window (section_side law self.now.stretch left start) (section_tells result) }
+        ensures size { result.window ≡ window }
     {
-        write_side(&self.stretch, left, window, start, out);
+        SectionBlock::lend(&self.stretch, left, window, start)
     }
 }

@@ -1,7 +1,7 @@
-use Rattle.std.proofs.Common.{◌≡◌, ℕ, ◌+◌, ◌<◌, ◌∙◌, ap, arith, refl, subst, sym}
+use Rattle.std.proofs.Common.{◌≡◌, ℕ, ◌+◌, ◌∙◌, ap, arith, refl, subst, sym}
 use Rattle.regions.specs.Sides.{is_section}
 use Rattle.regionrun.specs.declared.frontiers.Frontier.{Frontier}
-use Rattle.regionrun.specs.Handed.{IsBlockOf}
+use Rattle.regionrun.specs.Bodies.{IsComputed}
 use Rattle.regionrun.specs.Stubs.{HasStub}
 use Rattle.regionrun.proofs.turns.advance.Goals as goal
 
@@ -14,8 +14,6 @@ returns-clause-rest g c =
     let number : c.compute.new.self.number ≡ start.number =
     c.compute.ensures.same.number_is ∙ c.feed.ensures.same.number_is
     ∙ ap (λ (f : Frontier). f.number) c.enter.ensures.same in
-    let fed : c.feed.new.frontier.number ≡ c.compute.new.self.number =
-    sym c.compute.ensures.same.number_is in
     let computed : c.feed.new.frontier.computed ≡ c.args.turn.region =
     c.feed.ensures.computed ∙ ap (λ (f : Frontier). f.computed) c.enter.ensures.same
     ∙ rest.at.computed_is in
@@ -33,16 +31,13 @@ returns-clause-rest g c =
             g.G.Stub.EntryStub.entered_of start.number (k + 1) c.enter.new.self.stub)
             rest.at.computed_is c.enter.ensures.stub);
       };
-      handed = record {
-        block = λ b more few.
+      lending = record {
+        computed = λ b more.
             let same : c.feed.new.frontier.computed ≡ b =
             omega (arith, c.compute.ensures.more, more) in
-            let low : c.feed.new.frontier.computed < c.feed.new.frontier.windows =
-            subst (λ (k : ℕ). k < c.feed.new.frontier.windows) (sym same)
-            (subst (λ (k : ℕ). b < k) (sym c.feed.ensures.right.windows_are) few) in
-            subst (λ (k : ℕ). IsBlockOf law layout k b c.compute.new.self.block.items) fed
-            (subst (λ (k : ℕ). IsBlockOf law layout c.feed.new.frontier.number k
-            c.compute.new.self.block.items) same
-            (c.compute.ensures.block layout c.feed.ensures.right low));
+            subst (λ (w : ℕ). IsComputed law w b c.compute.new.self.body)
+            (c.compute.ensures.same.window_is ∙ c.feed.ensures.right.window_is)
+            (subst (λ (k : ℕ). IsComputed law c.compute.new.self.window k c.compute.new.self.body)
+            same c.compute.ensures.computed);
       };
     }

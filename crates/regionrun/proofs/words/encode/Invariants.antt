@@ -1,10 +1,9 @@
 use Rattle.std.specs.Prelude.{◌≡◌, length}
-use Rattle.case_model.specs.Runs.{point_at}
-use Rattle.regionrun.specs.Handed.{HasWords}
+use Rattle.regionrun.specs.Handed.{AreWordsOf}
 use Rattle.regionrun.proofs.words.encode.Given as goal
 
-abbrev pub invariant-loop-index : goal.invariant-loop-index
-invariant-loop-index l = record {
+abbrev pub invariant-loop-number : goal.invariant-loop-number
+invariant-loop-number g l = record {
   same : length l.words ≡ length l.fn.words;
-  words : HasWords l.index (point_at l.points) l.words;
+  words : AreWordsOf l.number (g.B.Block.tells l.block) l.words;
 }

@@ -7,7 +7,7 @@ use Rattle.strands.specs.Stations.{half}
 use Rattle.strands.proofs.besides.load_beside.Goals as goal
 
 pub loop-distance-preserved : goal.loop-distance-preserved
-loop-distance-preserved c =
+loop-distance-preserved g c =
     let old = c.args.stretch.now in
     let mid = c.loop-distance.stretch in
     let inv = c.loop-distance.invariant.same in
@@ -33,6 +33,6 @@ loop-distance-preserved c =
           subst (λ i. Holds law (taken_since right at s i since) (taken_front right at w s i front)
           c.load_at.new.stretch) e
           (c.load_at.ensures.holds law right at since front has c.place_beside-place.ensures.place
-          (same-outer law old mid right at w s c.args.points.now inv points)
+          (same-outer law old mid right at w s (g.B.Block.tells c.args.block.now) inv points)
           (c.loop-distance.invariant.holds law since front points h));
     }

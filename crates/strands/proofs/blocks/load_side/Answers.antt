@@ -5,14 +5,14 @@ use Rattle.strands.specs.Blocks.{from_end}
 use Rattle.strands.proofs.blocks.load_side.Goals as goal
 
 pub loop-distance-init : goal.loop-distance-init
-loop-distance-init c = record {
+loop-distance-init g c = record {
   same = record { pipe_is = refl; first_is = refl; number_is = refl; count_is = refl };
   holds = λ law front points bare h.
       loading-none law c.args.stretch.now c.args.left (count_of c.args.stretch.now - 1) c.args.window c.args.start front h;
 }
 
 pub load_place-requires-clause-inside : goal.load_place-requires-clause-inside
-load_place-requires-clause-inside c =
+load_place-requires-clause-inside g c =
     let n = c.count-last.result - 1 in
     let d : c.loop-distance.distance ≤ n =
     omega (arith, c.loop-distance-test.true, c.div_ceil-distance-end.ensures, c.count-last.ensures, c.requires.long) in
@@ -22,7 +22,7 @@ load_place-requires-clause-inside c =
     (end-inside c.args.left n c.loop-distance.distance (count_of c.loop-distance.stretch) d size)
 
 pub loop-distance-preserved : goal.loop-distance-preserved
-loop-distance-preserved c =
+loop-distance-preserved g c =
     let old = c.args.stretch.now in
     let mid = c.loop-distance.stretch in
     let inv = c.loop-distance.invariant.same in
@@ -40,12 +40,12 @@ loop-distance-preserved c =
       holds = λ law front points bare h.
           c.load_place.ensures.holds law c.args.left n front size (omega (arith, c.requires.long))
           (c.from_end.ensures ∙ ap (λ z. from_end c.args.left z c.loop-distance.distance) last)
-          (same-points law old mid c.args.left c.args.window c.args.start c.args.points.now inv points) bare
+          (same-points law old mid c.args.left c.args.window c.args.start (g.B.Block.tells c.args.block.now) inv points) bare
           (c.loop-distance.invariant.holds law front points bare h);
     }
 
 pub returns-clause-holds : goal.returns-clause-holds
-returns-clause-holds c = λ law front points bare h.
+returns-clause-holds g c = λ law front points bare h.
     let old = c.args.stretch.now in
     let new = c.loop-distance.stretch in
     let n = count_of old - 1 in

@@ -6,7 +6,7 @@ use Rattle.regionrun.specs.declared.bodies.Body.TheVariants.{OfNode}
 use Rattle.regionrun.proofs.bodies.Body.load.Goals as goal
 
 pub returns-in-OfNode-clause-loaded : goal.returns-in-OfNode-clause-loaded
-returns-in-OfNode-clause-loaded c =
+returns-in-OfNode-clause-loaded g c =
     let old = c.in-OfNode.hub in
     let new = c.load-in-OfNode.new.self in
     let loaded : HasLoaded c.args.side (OfNode old) (OfNode new) = record {

@@ -6,7 +6,7 @@ use Rattle.regionrun.proofs.frontiers.Frontier.load.Goals as goal
 pub load-requires-clause-side : goal.load-requires-clause-side
 load-requires-clause-side g c =
     given-side (g.L.Law.meaning c.args.law.now) c.requires.given.layout c.args.self.now
-    c.args.side c.args.points.now c.requires.given.given
+    c.args.side (g.B.Block.tells c.args.block.now) c.requires.given.given
 
 pub returns-clause-right : goal.returns-clause-right
 returns-clause-right g c = λ layout given.
@@ -19,7 +19,8 @@ returns-clause-right g c = λ layout given.
       windows_are = right.windows_are;
       sides_are = right.sides_are;
       regions = right.regions;
-      keeps = taken law layout c.args.self.now c.load.new.self c.args.side c.args.points.now
+      keeps = taken law layout c.args.self.now c.load.new.self c.args.side
+          (g.B.Block.tells c.args.block.now)
           (c.layouts_are_lawful.ensures layout law.mesh right.laid_out) given
           c.load.ensures.loaded.same (c.load.ensures.open law);
       spans = right.spans;

@@ -6,7 +6,7 @@ use Rattle.strands.specs.Blocks.{HasPoints}
 use Rattle.strands.proofs.hubs.Hub.load.Goals as goal
 
 pub returns-clause-loaded : goal.returns-clause-loaded
-returns-clause-loaded c =
+returns-clause-loaded g c =
     let old = c.args.self.now in
     let side = c.args.side in
     let x = c.index_mut.result.now in
@@ -17,7 +17,7 @@ returns-clause-loaded c =
     c.load.ensures.loaded
 
 pub returns-clause-at : goal.returns-clause-at
-returns-clause-at c = λ law h points.
+returns-clause-at g c = λ law h points.
     let old = c.args.self.now in
     let side = c.args.side in
     let w = c.args.window in
@@ -26,7 +26,7 @@ returns-clause-at c = λ law h points.
     let read = get_or_read old.spokes.items side x c.requires.there c.index_mut.ensures.value in
     let now = c.load.ensures.at law (subst (IsSpokeAt law w s) (sym (read x))
     (h.spokes side x c.requires.there))
-    (subst (λ z. HasPoints w (spoke_outer law w s z) c.args.points.now) (sym (read x)) (points x)) in
+    (subst (λ z. HasPoints w (spoke_outer law w s z) (g.B.Block.tells c.args.block.now)) (sym (read x)) (points x)) in
     hub-at-set law w s old _ side c.load.new.self
     (same-hub-set old _ side c.load.new.self refl refl c.requires.there
     (λ d. subst (λ z. IsSameSpoke z c.load.new.self) (read d) c.load.ensures.same)) refl refl now h

@@ -1,0 +1,143 @@
+//! Blocks: the points that one strand hands on to another. Those of a strand at rest are read
+//! where they stand, in its stretch.
+ghost use Rattle.std.specs.Prelude.{◌≡◌, ℕ, ◌+◌, ◌-◌, ◌/◌, ◌^◌, ◌<◌, ◌≤◌, if◌then◌else◌};
+ghost use Rattle.case_model.specs.Range.{IsPoint};
+ghost use Rattle.case_model.specs.declared.points.Point.{Point as PointSeen};
+ghost use Rattle.fronts.specs.Stretches.{count_of};
+
+use crate::besides::{place_beside, step_in};
+use crate::blocks::from_end;
+use case_model::Point;
+use fronts::Stretch;
+
+/// The points that one strand hands on to another, in order: two at each distance from the
+/// station, the earlier first.
+pub trait Block {
+    /// How many points there are.
+    ghost size: { Self → ℕ };
+
+    /// Which point has a number.
+    ghost tells: { Self → ℕ → PointSeen → Type 0 };
+
+    /// The point of a number.
+    fn point(&self, number: usize) -> Point
+        requires { number < size self.now }
+        ensures point { (point : PointSeen) → tells self.now number point → result ≡ point }
+        ensures in_range { IsPoint result };
+}
+
+/// The block of a section for the station at its left or its right, over the window of so many
+/// steps after `start`.
+#[derive(Drop)]
+pub struct SectionBlock<'a> {
+    pub(crate) stretch: &'a Stretch,
+    pub(crate) left: bool,
+    pub(crate) window: usize,
+    pub(crate) start: u64,
+    ghost long: { window + 1 ≤ count_of stretch.now },
+    ghost room: { start + window < 2 ^ 64 },
+}
+
+impl<'a> SectionBlock<'a> {
+    ghost use Rattle.case_model.specs.Meaning.{Meaning};
+    ghost use Rattle.fronts.specs.Fronts.{Holds, ever, tent};
+    ghost use Rattle.strands.specs.Blocks.{HasPoints, section_side, section_tells};
+
+    /// The block of a section that is computed to its tent.
+    pub(crate) fn lend(
+        stretch: &'a Stretch,
+        left: bool,
+        window: usize,
+        start: u64,
+    ) -> SectionBlock<'a>
+        requires long { window + 1 ≤ count_of stretch.now }
+        requires room { start + window < 2 ^ 64 }
+        ensures points { (law : Meaning) →
+            Holds law ever (tent start (count_of stretch.now - 1)) stretch.now →
+            HasPoints window (section_side law stretch.now left start) (section_tells result) }
+        ensures size { result.window ≡ window }
+    {
+        SectionBlock {
+            stretch,
+            left,
+            window,
+            start,
+        }
+    }
+}
+
+impl<'a> Block for SectionBlock<'a> {
+    ghost use Rattle.strands.specs.Blocks.{section_tells};
+
+    ghost size = { λ block. block.window };
+
+    ghost tells = { section_tells };
+
+    #[tactic(auto, unfolding(crate::specs::Blocks::section_tells))]
+    fn point(&self, number: usize) -> Point {
+        let place = from_end(self.left, self.stretch.count() - 1, number / 2 + 1);
+        let step = self.start + (number as u64).div_ceil(2);
+        self.stretch.point(step, place)
+    }
+}
+
+/// The block of the station in place `at` of a stretch for the section at its right or its left,
+/// over the window of so many steps after `start`: the points of the station and of its triangle.
+#[derive(Drop)]
+pub struct StationBlock<'a> {
+    pub(crate) stretch: &'a Stretch,
+    pub(crate) right: bool,
+    pub(crate) at: usize,
+    pub(crate) window: usize,
+    pub(crate) start: u64,
+    ghost ahead: { at + (if right then (window - 1) / 2 else 0) < count_of stretch.now },
+    ghost behind: { (if right then 0 else (window - 1) / 2) ≤ at },
+    ghost room: { start + window < 2 ^ 64 },
+}
+
+impl<'a> StationBlock<'a> {
+    ghost use Rattle.case_model.specs.Meaning.{Meaning};
+    ghost use Rattle.fronts.specs.Fronts.{Holds};
+    ghost use Rattle.strands.specs.Beside.{HasBeside, IsTriangle, inner_side, station_tells};
+    ghost use Rattle.strands.specs.Blocks.{HasPoints};
+
+    /// The block of a station that is computed to the end of the window.
+    pub(crate) fn lend(
+        stretch: &'a Stretch,
+        right: bool,
+        at: usize,
+        window: usize,
+        start: u64,
+    ) -> StationBlock<'a>
+        requires inside { HasBeside right at ((window - 1) / 2) (count_of stretch.now) }
+        requires room { start + window < 2 ^ 64 }
+        ensures points { (law : Meaning) (since front : ℕ → ℕ) →
+            IsTriangle right at window start since front → Holds law since front stretch.now →
+            HasPoints window (inner_side law stretch.now right at window start)
+            (station_tells result) }
+        ensures size { result.window ≡ window }
+    {
+        StationBlock {
+            stretch,
+            right,
+            at,
+            window,
+            start,
+        }
+    }
+}
+
+impl<'a> Block for StationBlock<'a> {
+    ghost use Rattle.strands.specs.Beside.{station_tells};
+
+    ghost size = { λ block. block.window };
+
+    ghost tells = { station_tells };
+
+    #[tactic(auto, unfolding(crate::specs::Beside::station_tells))]
+    fn point(&self, number: usize) -> Point {
+        let place = place_beside(self.stretch, self.right, self.at, number / 2);
+        let step = self.start + step_in(self.window, number) as u64;
+        self.stretch.point(step, place)
+    }
+}
