@@ -1,28 +1,35 @@
--- Runs of places of a pipe: the vapour head of its higher end, and the law of a place by what a run knows.
-use Rattle.std.proofs.Common.{List, length, subst, get_or, ℕ, ◌+◌, ◌<◌, ◌≤◌, ◌≡◌, ap, sym, ◌∙◌, arith, ℤ, pos, ◌+ℤ◌, ◌-ℤ◌, ◌*ℤ◌, ◌≤ℤ◌, unsigned_abs, w64, of_z, to_z, FitsSigned}
+-- Runs of places of a pipe: the vapour head of its higher end, the law of a place by what a run knows,
+-- and how friction is taken.
+use Rattle.std.proofs.Common.{List, [], ◌∷◌, ◌++◌, length, subst, get_or, refl, not, IsTrue, inl, inr, length-append, ℕ, ◌+◌, ◌<◌, ◌≤◌, ◌≡◌, ap, sym, ◌∙◌, arith, ℤ, pos, ◌+ℤ◌, ◌-ℤ◌, ◌*ℤ◌, ◌≤ℤ◌, unsigned_abs, w64, of_z, to_z, FitsSigned}
 use Rattle.std.specs.Int.{int_max, w128}
 use Rattle.std.proofs.lemmas.Int.{ints, fits_signed_from_abs, to_z-of_z}
-use Rattle.std.proofs.lemmas.List.{get_or_default}
 use Rattle.fixed_num.specs.Rounding.{rnd}
 use Rattle.fixed_num.proofs.Between.{IsPart, part}
 use Rattle.case_model.specs.declared.cases.Case.{Case}
 use Rattle.case_model.specs.declared.cases.Friction.{Friction}
-use Rattle.case_model.specs.declared.cases.Friction.TheVariants.{Explicit}
+use Rattle.case_model.specs.declared.cases.Friction.TheVariants.{Explicit, Linear}
 use Rattle.case_model.specs.declared.meshes.Mesh.{Mesh}
 use Rattle.case_model.specs.declared.points.Point.{Point}
-use Rattle.case_model.specs.declared.points.Point.TheVariants.{Good, Bad}
-use Rattle.case_model.specs.Runs.{point_at}
+use Rattle.case_model.specs.declared.spots.Spot.{Spot}
+use Rattle.case_model.specs.Runs.{calm_at, calm_point}
 use Rattle.case_model.specs.Division.{vapour_head}
 use Rattle.case_model.specs.Formulas.{elevation_between}
 use Rattle.case_model.specs.Mesh.{reaches}
+use Rattle.case_model.proofs.Running.{calm_spot}
 use Rattle.charline.specs.Characteristics.{IsImpedance, IsResistance}
 use Rattle.charline.proofs.Sizes.{fits_wide}
 use Rattle.charline.specs.Interior.{inner_point}
-use Rattle.charline.specs.Runs.{IsPlus, IsMinus, IsCalmPoint}
+use Rattle.charline.specs.Runs.{IsPlus, IsMinus, IsCalmSpot}
 use Rattle.scheme.specs.Arrivals.{impedance}
 use Rattle.scheme.specs.Values.{rule_at}
 use Rattle.scheme.specs.Laws.{inner_law}
-use Rattle.scheme.specs.Runs.{IsOfPipe}
+use Rattle.scheme.specs.Runs.{IsOfPipe, is_explicit, IsPreparedFor, ArePrepared}
+use Rattle.scheme.specs.declared.prepared.PreparedPipe.{PreparedPipe}
+use Rattle.scheme.specs.declared.prepared.PreparedPipe.TheVariants.{Explicit as InWords, Linear as Linearly, Wide}
+use Rattle.charline.specs.declared.runs.Prepared.{Prepared}
+use Rattle.std.proofs.Math.Seq.{get_or-append_seam}
+use Rattle.std.proofs.lemmas.List.{get_or_append_left}
+use Rattle.std.proofs.lemmas.Bool.{cases_lt}
 
 below_higher : (first last x : ℤ) → IsPart (last -ℤ first) x → (first +ℤ x) ≤ℤ int_max first last
 below_higher first last x h = grind (arith, ints, h.up, h.down)
@@ -36,37 +43,35 @@ elevation_below first last v i n h =
 double : (z : ℤ) → unsigned_abs z ≤ 2000000000000000000 → FitsSigned w64 z
 double z h = fits_signed_from_abs w64 z (omega arith)
 
--- the point that a run tells of a place is that of its law
-pub calm_is : (case : Case) (mesh : Mesh) (p i b r : ℕ) (top plus minus : ℤ) (left own right next : Point) → case.friction ≡ Explicit → IsOfPipe case mesh p b r top → i < reaches mesh p
+-- the place that a run tells is that of its law
+pub calm_is : (case : Case) (mesh : Mesh) (p i b r : ℕ) (top plus minus : ℤ) (left right : Point) (own next : Spot) → case.friction ≡ Explicit → IsOfPipe case mesh p b r top → i < reaches mesh p
     → IsPlus b r left plus → IsMinus b r right minus
-    → IsCalmPoint b r top (to_z w64 (of_z w64 plus)) own (to_z w64 (of_z w64 minus)) next → next ≡ inner_law case mesh p i left own right
+    → IsCalmSpot b r top plus minus next → calm_point next ≡ inner_law case mesh p i left (calm_point own) right
 unfolding inner_law
-calm_is case mesh p i b r top plus minus left own right next e of_pipe h ip im f =
+calm_is case mesh p i b r top plus minus left right own next e of_pipe h ip im f =
     let law = rule_at case (vapour_head case mesh p i) in
-    let g : IsCalmPoint b r top plus own minus next = rw (to_z-of_z w64 plus (double plus ip.size), to_z-of_z w64 minus (double minus im.size)) at f in
-    g law left right (of_pipe.highest i h) ip im
-    ∙ ap (λ (x : Friction). inner_point x law (pos b) (pos r) left own right) (sym e)
-    ∙ ap (λ (x : ℤ). inner_point case.friction law x (pos r) left own right) of_pipe.impeded
-    ∙ ap (λ (x : ℤ). inner_point case.friction law (impedance mesh p) x left own right) of_pipe.resisted
+    f law left right own (of_pipe.highest i h) ip im
+    ∙ ap (λ (x : Friction). inner_point x law (pos b) (pos r) left (calm_point own) right) (sym e)
+    ∙ ap (λ (x : ℤ). inner_point case.friction law x (pos r) left (calm_point own) right) of_pipe.impeded
+    ∙ ap (λ (x : ℤ). inner_point case.friction law (impedance mesh p) x left (calm_point own) right) of_pipe.resisted
 
--- what is read at a place is the point there, and back
-pub at_place : (P : Point → Type 0) (points : List Point) (k : ℕ) → k < length points → P (get_or points k (Good (pos 0) (pos 0) (pos 0) (pos 0))) → P (point_at points k)
-at_place P points k h p = subst P (get_or_default points k (Good (pos 0) (pos 0) (pos 0) (pos 0)) Bad h) p
+-- a value of C+ as it stands in a word, of a place of the list
+pub kept : (b r : ℕ) (spots : List Spot) (k : ℕ) (d x : Spot) (c : ℤ) → k < length spots → x ≡ get_or spots k d → IsPlus b r (calm_point x) c → IsPlus b r (calm_at spots k) (to_z w64 (of_z w64 c))
+kept b r spots k d x c h e p =
+    let at : calm_point x ≡ calm_at spots k = ap calm_point e ∙ sym (calm_spot spots k d h) in
+    subst (λ (q : Point). IsPlus b r q (to_z w64 (of_z w64 c))) at (rw (to_z-of_z w64 c (double c p.size)) p)
 
-pub read_at : (P : Point → Type 0) (points : List Point) (k : ℕ) → k < length points → P (point_at points k) → P (get_or points k (Good (pos 0) (pos 0) (pos 0) (pos 0)))
-read_at P points k h p = subst P (sym (get_or_default points k (Good (pos 0) (pos 0) (pos 0) (pos 0)) Bad h)) p
-
--- a value of C+ as it stands in a word
 pub stored : (b r : ℕ) (from : Point) (c : ℤ) → IsPlus b r from c → IsPlus b r from (to_z w64 (of_z w64 c))
 stored b r from c p = rw (to_z-of_z w64 c (double c p.size)) p
 
-pub kept : (b r : ℕ) (points : List Point) (k : ℕ) (c : ℤ) → k < length points → IsPlus b r (get_or points k (Good (pos 0) (pos 0) (pos 0) (pos 0))) c → IsPlus b r (point_at points k) (to_z w64 (of_z w64 c))
-kept b r points k c h p = stored b r (point_at points k) c (at_place (λ (x : Point). IsPlus b r x c) points k h p)
+pub stored_minus : (b r : ℕ) (from : Point) (c : ℤ) → IsMinus b r from c → IsMinus b r from (to_z w64 (of_z w64 c))
+stored_minus b r from c p = rw (to_z-of_z w64 c (double c p.size)) p
 
-pub kept_next : (b r : ℕ) (points : List Point) (k : ℕ) (c : ℤ) → k + 2 < length points → IsPlus b r (get_or points (k + 2) (Good (pos 0) (pos 0) (pos 0) (pos 0))) c → IsPlus b r (point_at points (k + 1 + 1)) (to_z w64 (of_z w64 c))
-kept_next b r points k c h p =
-    let e : k + 2 ≡ k + 1 + 1 = omega arith in
-    subst (λ (n : ℕ). IsPlus b r (point_at points n) (to_z w64 (of_z w64 c))) e (kept b r points (k + 2) c h p)
+-- a value of C- of a place of the list
+pub minus_at : (b r : ℕ) (spots : List Spot) (k : ℕ) (d x : Spot) (c : ℤ) → k < length spots → x ≡ get_or spots k d → IsMinus b r (calm_point x) c → IsMinus b r (calm_at spots k) c
+minus_at b r spots k d x c h e p =
+    let at : calm_point x ≡ calm_at spots k = ap calm_point e ∙ sym (calm_spot spots k d h) in
+    subst (λ (q : Point). IsMinus b r q c) at p
 
 -- what a pipe has, as it stands in words
 pub impeded_as : (n : ℕ) (b x : ℤ) → IsImpedance b → n ≡ unsigned_abs (to_z w64 (of_z w64 b)) → b ≡ x → pos n ≡ x
@@ -86,3 +91,46 @@ resisted_as n r x h e f =
 pub below_as : (top x v : ℤ) → unsigned_abs x ≤ 100000000000 → top ≡ to_z w64 (of_z w64 x) → v ≤ℤ x → v ≤ℤ top
 below_as top x v h e f =
     let g : top ≡ x = rw (to_z-of_z w64 x (double x (omega arith))) at e in omega (arith, ints)
+
+pub of_explicit : (f : Friction) → f ≡ Explicit → IsTrue (is_explicit f)
+of_explicit Explicit e = refl
+of_explicit Linear e = absurd cc
+
+pub of_linear : (f : Friction) → f ≡ Linear → IsTrue (not (is_explicit f))
+of_linear Explicit e = absurd cc
+of_linear Linear e = refl
+
+pub explicitly : (f : Friction) → IsTrue (is_explicit f) → f ≡ Explicit
+explicitly Explicit h = refl
+explicitly Linear h = absurd cc
+
+pub linearly : (f : Friction) → IsTrue (not (is_explicit f)) → f ≡ Linear
+linearly Explicit h = absurd cc
+linearly Linear h = refl
+
+-- what an entry tells, by its kind
+pub in_words : (case : Case) (mesh : Mesh) (p : ℕ) (x : PreparedPipe) (y : Prepared) → x ≡ InWords y → IsPreparedFor case mesh p x → (case.friction ≡ Explicit) × IsOfPipe case mesh p y.b y.r y.top
+in_words case mesh p x y e h = let g : IsPreparedFor case mesh p (InWords y) = subst (IsPreparedFor case mesh p) e h in (explicitly case.friction g.0, g.1)
+
+pub linear_entry : (case : Case) (mesh : Mesh) (p : ℕ) (x : PreparedPipe) → x ≡ Linearly → IsPreparedFor case mesh p x → case.friction ≡ Linear
+linear_entry case mesh p x e h = let g : IsPreparedFor case mesh p Linearly = subst (IsPreparedFor case mesh p) e h in linearly case.friction g
+
+pub wide_entry : (case : Case) (mesh : Mesh) (p : ℕ) (x : PreparedPipe) → x ≡ Wide → IsPreparedFor case mesh p x → case.friction ≡ Explicit
+wide_entry case mesh p x e h = let g : IsPreparedFor case mesh p Wide = subst (IsPreparedFor case mesh p) e h in explicitly case.friction g
+
+-- a table with one entry more
+pub one_prepared : (case : Case) (mesh : Mesh) (table : List PreparedPipe) (x : PreparedPipe) → ArePrepared case mesh table → IsPreparedFor case mesh (length table) x → ArePrepared case mesh (table ++ x ∷ [])
+one_prepared case mesh table x h one = λ p l. elim (cases_lt p (length table)) [
+  | inl below ↦ subst (IsPreparedFor case mesh p) (sym (get_or_append_left table (x ∷ []) Wide p below)) (h p below)
+  | inr above ↦
+      let e : length table ≡ p = omega (arith, l, above, length-append table (x ∷ [])) in
+      subst (λ (q : ℕ). IsPreparedFor case mesh q (get_or (table ++ x ∷ []) q Wide)) e
+      (subst (IsPreparedFor case mesh (length table)) (sym (get_or-append_seam table x [] Wide)) one)
+]
+
+-- the table so far, of the first n pipes
+pub one_pushed : (case : Case) (mesh : Mesh) (n : ℕ) (table new : List PreparedPipe) (x : PreparedPipe) → length table ≡ n → ArePrepared case mesh table → IsPreparedFor case mesh n x → new ≡ table ++ x ∷ [] → (length new ≡ n + 1) × ArePrepared case mesh new
+one_pushed case mesh n table new x e h one s =
+    let longer : length (table ++ x ∷ []) ≡ n + 1 = omega (arith, e, length-append table (x ∷ [])) in
+    subst (λ (l : List PreparedPipe). (length l ≡ n + 1) × ArePrepared case mesh l) (sym s)
+    (longer, one_prepared case mesh table x h (subst (λ (k : ℕ). IsPreparedFor case mesh k x) (sym e) one))

@@ -81,7 +81,7 @@ inner_point-good friction rule b r left (Good h qu qd v) right =
     (growth qu qd)
 inner_point-good friction rule b r left Bad right = tt
 
-inner_law-good : (case : Case) (mesh : Mesh) (p i : ℕ) (left own right : Point)
+pub inner_law-good : (case : Case) (mesh : Mesh) (p i : ℕ) (left own right : Point)
     → IsPoint (inner_law case mesh p i left own right)
 unfolding inner_law
 inner_law-good case mesh p i left own right = inner_point-good _ _ _ _ left own right

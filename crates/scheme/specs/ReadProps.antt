@@ -19,7 +19,10 @@ use Rattle.case_model.specs.declared.meshes.Mesh.{Mesh}
 use Rattle.case_model.specs.Limits.{IsOpening}
 use Rattle.case_model.specs.Limits.{IsHead, IsFlow, IsWithin, IsEntry, IsInOrder, IsTable}
 use Rattle.case_model.specs.Limits.{IsTableOf, IsValue, IsKind, IsNode, IsSpot, IsVersion, IsRead}
+use Rattle.scheme.specs.declared.prepared.PreparedPipe.{PreparedPipe}
+use Rattle.scheme.specs.declared.prepared.PreparedPipe.TheVariants.{Explicit, Linear, Wide}
 use Rattle.scheme.specs.Computable.{Suits, HasEnds, IsComputable}
+use Rattle.scheme.specs.Runs.{IsPreparedFor, ArePrepared}
 
 IsWithin-prop : (low high x : ℤ) → IsProp (IsWithin low high x)
 IsWithin-prop low high x = Prim.hlevel props
@@ -114,3 +117,13 @@ HasEnds-prop kind ends = Prim.hlevel (props, Suits-prop)
 
 pub IsComputable-prop : (case : Case) (mesh : Mesh) → IsProp (IsComputable case mesh)
 IsComputable-prop case mesh = Prim.hlevel (props, IsRead-prop, HasEnds-prop)
+
+IsPreparedFor-prop : (case : Case) (mesh : Mesh) (p : ℕ) (x : PreparedPipe)
+    → IsProp (IsPreparedFor case mesh p x)
+IsPreparedFor-prop case mesh p (Explicit x) = Prim.hlevel props
+IsPreparedFor-prop case mesh p Linear = Prim.hlevel props
+IsPreparedFor-prop case mesh p Wide = Prim.hlevel props
+
+pub ArePrepared-prop : (case : Case) (mesh : Mesh) (table : List PreparedPipe)
+    → IsProp (ArePrepared case mesh table)
+ArePrepared-prop case mesh table = Prim.hlevel (props, IsPreparedFor-prop)

@@ -12,9 +12,12 @@ mod interior;
 mod node_laws;
 mod physics;
 mod pipes;
+mod prepared;
+mod runs;
 mod starts;
 mod values;
 mod vapour;
 
 pub use causes::{bad_ends_have_causes, bad_nodes_have_causes, bad_places_have_causes};
 pub use physics::Physics;
+pub use prepared::{PreparedPipe, prepare};

@@ -19,7 +19,7 @@ use envelope::{Fold, folds_tell_rows, numbers_tell_places};
 use regionrun::{Gate, Survey, Workers, compute};
 use regions::{WIDEST_WINDOW, layout};
 use report::{sizes, write_range};
-use scheme::Physics;
+use scheme::{Physics, prepare};
 use std::alloc::AllocError;
 use std::thread::Threads;
 use surge_io::Sink;
@@ -91,7 +91,8 @@ fn fold_rows<R: Threads + AllocGlobal + Sync, G: Gate + Sync>(
 {
     let alloc = workers.rt.alloc();
     sizes(case, mesh);
-    let law = Physics::over(case, mesh);
+    let table = prepare(alloc, case, mesh)?;
+    let law = Physics::with_table(case, mesh, &table);
     let layout = layout(alloc, case, mesh, wish)?;
     let probes = probe_numbers(alloc, case, mesh)?;
     let mut fold = fold_over(alloc, case, mesh, &probes)?;

@@ -1,7 +1,7 @@
 use Rattle.scheme.proofs.Calm.{impeded_as, resisted_as, below_as}
 use Rattle.case_model.specs.Division.{vapour_head}
 use Rattle.scheme.specs.Arrivals.{impedance, resistance}
-use Rattle.scheme.proofs.interior.prepared.Goals as goal
+use Rattle.scheme.proofs.prepared.in_64_bits.Goals as goal
 
 pub returns : goal.returns
 returns c =
