@@ -1,0 +1,5 @@
+mod Joined
+mod Wording
+mod Pushed
+mod Dealt
+mod Sized
