@@ -7,15 +7,15 @@ use Rattle.case_model.specs.declared.spots.Spot.{Spot}
 use Rattle.case_model.specs.Meaning.{Meaning}
 use Rattle.case_model.specs.Runs.{IsCalmRun, calm_at, calm_point}
 
-here : (spots : List Spot) (k : ℕ) (x : Spot) → k < length spots
+pub calm-set : (spots : List Spot) (k : ℕ) (x : Spot) → k < length spots
     → calm_at (set spots k x) k ≡ calm_point x
-here spots k x h =
+calm-set spots k x h =
     ap (λ ps. get_or ps k Bad) (map-set calm_point spots k x)
     ∙ get_or-set_same (map calm_point spots) k (calm_point x) Bad (omega (arith, length-map spots calm_point, h))
 
-beside : (spots : List Spot) (k j : ℕ) (x : Spot) → j ≢ k
+pub calm-beside : (spots : List Spot) (k j : ℕ) (x : Spot) → j ≢ k
     → calm_at (set spots k x) j ≡ calm_at spots j
-beside spots k j x n =
+calm-beside spots k j x n =
     ap (λ ps. get_or ps j Bad) (map-set calm_point spots k x)
     ∙ get_or-set_other (map calm_point spots) k j (calm_point x) Bad n
 
@@ -39,8 +39,8 @@ one_more law p first before k old new x l e h = record {
   made = λ j b. elim (cases_eq j k) [
     | inl s ↦ subst (λ i. calm_at (set new k x) i
         ≡ law.inner p (first + i) (calm_at before i) (calm_at before (i + 1)) (calm_at before (i + 2)))
-        (sym s) (here new k x l ∙ e)
-    | inr n ↦ beside new k j x n ∙ h.made j (omega (arith, b, n))
+        (sym s) (calm-set new k x l ∙ e)
+    | inr n ↦ calm-beside new k j x n ∙ h.made j (omega (arith, b, n))
   ];
-  rest = λ j b. beside new k j x (λ s. absurd (omega (arith, s, b))) ∙ h.rest j (omega (arith, b));
+  rest = λ j b. calm-beside new k j x (λ s. absurd (omega (arith, s, b))) ∙ h.rest j (omega (arith, b));
 }

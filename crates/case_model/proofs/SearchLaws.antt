@@ -52,7 +52,7 @@ abbrev FindsFirst : List ℕ → Rules → ℕ → ℕ → Option Refusal → Ty
 FindsFirst numbers rules from count None = (l n : ℕ) → from ≤ l → l < from + count → IsOneOf numbers n → IsTrue (rules l n) → ⊥
 FindsFirst numbers rules from count (Some r) = IsFirstOf numbers rules from count r
 
-here_or_later : (from l : ℕ) → from ≤ l → (from ≡ l) ⊎ (from + 1 ≤ l)
+pub here_or_later : (from l : ℕ) → from ≤ l → (from ≡ l) ⊎ (from + 1 ≤ l)
 here_or_later from l h = grind arith
 
 first_on : (numbers : List ℕ) (rules : Rules) (from count : ℕ) (o : Option ℕ) (later : Option Refusal)

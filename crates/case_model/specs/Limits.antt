@@ -6,6 +6,7 @@ use Rattle.case_model.specs.declared.cases.Case.{Case}
 use Rattle.case_model.specs.declared.cases.Friction.{Friction}
 use Rattle.case_model.specs.declared.cases.Friction.TheVariants.{Explicit}
 use Rattle.case_model.specs.declared.cases.Table.{Table}
+use Rattle.case_model.specs.declared.cases.TheConstants.{MOST_PROBES}
 use Rattle.case_model.specs.declared.cases.TableKind.{TableKind}
 use Rattle.case_model.specs.declared.cases.TableKind.TheVariants.{Heads, Flows, Openings, Speeds}
 use Rattle.case_model.specs.declared.cases.TableKind.TheVariants.{Curve, Gas}
@@ -171,7 +172,7 @@ pub record IsRead (case : Case) : Type 0 where
   pub few_tables : length case.tables ≤ 1_024
   pub few_nodes : length case.nodes ≤ 4_096
   pub few_pipes : length case.pipes ≤ 4_096
-  pub few_probes : length case.probes ≤ 256
+  pub few_probes : length case.probes ≤ MOST_PROBES
   pub tables : All IsTable case.tables
   pub nodes : All (IsNode case.tables) case.nodes
   pub pipes : All IsPipe case.pipes

@@ -1,22 +1,16 @@
-use Rattle.std.specs.Prelude.{◌≡◌, ℤ, pos, ◌≤ℤ◌, Bool, true, false, ◌&&◌, cond, nat_le, int_le}
+use Rattle.std.specs.Prelude.{◌≡◌, ℤ, pos, Bool, true, false, ◌&&◌, cond, nat_le, int_le}
 use Rattle.std.specs.Prelude.{unsigned_abs, refl}
-use Rattle.std.proofs.Common.{ap, arith}
+use Rattle.std.proofs.Common.{ap}
 use Rattle.std.proofs.lemmas.Bool.{and_from, false_from_ne_true, le-leb, leb-true}
-use Rattle.std.proofs.lemmas.Int.{ints}
 use Rattle.case_model.specs.declared.points.Point.TheVariants.{Good, Bad}
 use Rattle.case_model.specs.declared.states.NodeState.TheVariants.{Good as GoodState}
 use Rattle.case_model.specs.declared.states.NodeState.TheVariants.{Bad as BadState}
 use Rattle.case_model.specs.Range.{InRange, IsPoint, point_of, InStateRange, IsState, state_of}
+use Rattle.fixed_num.proofs.Orders.{at_most_of, at_most_at}
 
 both : (a b : Bool) → (a && b) ≡ true → (a ≡ true) × (b ≡ true)
 both true b e = (refl, e)
 both false b e = cc
-
-int_le-yes : (a b : ℤ) → int_le a b ≡ true → a ≤ℤ b
-int_le-yes a b e = grind (arith, ints)
-
-yes-int_le : (a b : ℤ) → a ≤ℤ b → int_le a b ≡ true
-yes-int_le a b h = grind (arith, ints)
 
 -- ---- points
 
@@ -30,7 +24,7 @@ point_test-yes : (h qu qd v : ℤ) → InRange h qu qd v → point_test h qu qd 
 point_test-yes h qu qd v r =
     and_from _ _ (and_from _ _
     (and_from _ _ (and_from _ _ (le-leb _ _ r.head) (le-leb _ _ r.up)) (le-leb _ _ r.down))
-    (yes-int_le (pos 0) v r.low)) (le-leb _ _ r.volume)
+    (at_most_at (pos 0) v r.low)) (le-leb _ _ r.volume)
 
 yes-point_test : (h qu qd v : ℤ) → point_test h qu qd v ≡ true → InRange h qu qd v
 yes-point_test h qu qd v e =
@@ -42,7 +36,7 @@ yes-point_test h qu qd v e =
       head = leb-true _ _ d.0;
       up = leb-true _ _ d.1;
       down = leb-true _ _ c.1;
-      low = int_le-yes (pos 0) v b.1;
+      low = at_most_of (pos 0) v b.1;
       volume = leb-true _ _ a.1;
     }
 
@@ -87,7 +81,7 @@ state_test h v g =
 
 state_test-yes : (h v g : ℤ) → InStateRange h v g → state_test h v g ≡ true
 state_test-yes h v g r =
-    and_from _ _ (and_from _ _ (and_from _ _ (le-leb _ _ r.head) (yes-int_le (pos 0) v r.low))
+    and_from _ _ (and_from _ _ (and_from _ _ (le-leb _ _ r.head) (at_most_at (pos 0) v r.low))
     (le-leb _ _ r.volume)) (le-leb _ _ r.growth)
 
 yes-state_test : (h v g : ℤ) → state_test h v g ≡ true → InStateRange h v g
@@ -97,7 +91,7 @@ yes-state_test h v g e =
     let c = both _ _ b.0 in
     record {
       head = leb-true _ _ c.0;
-      low = int_le-yes (pos 0) v c.1;
+      low = at_most_of (pos 0) v c.1;
       volume = leb-true _ _ b.1;
       growth = leb-true _ _ a.1;
     }

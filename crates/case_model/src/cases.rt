@@ -1,6 +1,9 @@
 //! A case: what its text says, as plain types.
 use crate::{List, Name};
 
+/// How many probes and watches a case may have.
+pub const MOST_PROBES: usize = 256;
+
 /// A case: what its text says, in file order, with names resolved and defaults filled in.
 #[derive(Drop, Debug)]
 pub struct Case {

@@ -21,7 +21,9 @@ mod states;
 mod words;
 
 pub use accepted::accepted_cases_are_kept;
-pub use cases::{Case, Friction, Node, NodeKind, Pipe, Probe, ProbeAt, Table, TableKind, Value};
+pub use cases::{
+    Case, Friction, MOST_PROBES, Node, NodeKind, Pipe, Probe, ProbeAt, Table, TableKind, Value,
+};
 pub use fault::CaseFault;
 pub use faults::first_fault_is_least;
 pub use joints::{Joint, PipeJoints, find_end, find_joints};

@@ -7,12 +7,11 @@ use Rattle.std.proofs.Math.IntN.{+ℤ_comm}
 use Rattle.fixed_num.specs.Rounding.{half_up, rnd}
 use Rattle.fixed_num.proofs.Between.{rnd_up, rnd_down}
 use Rattle.case_model.specs.declared.cases.Friction.TheVariants.{Explicit}
-use Rattle.case_model.specs.declared.points.Point.{Point}
 use Rattle.case_model.specs.declared.points.Point.TheVariants.{Good}
 use Rattle.case_model.specs.declared.spots.Spot.{Spot}
 use Rattle.case_model.specs.declared.meshes.Arrival.{Arrival}
 use Rattle.case_model.specs.declared.meshes.CavityRule.{CavityRule}
-use Rattle.case_model.specs.Range.{point_of, IsPoint}
+use Rattle.case_model.specs.Range.{point_of}
 use Rattle.charline.specs.Characteristics.{impedance_head, friction_head, driven_flow, arrive_plus, arrive_minus, in_reach}
 use Rattle.charline.specs.Interior.{inner_point, meet, meet_if, meeting_head, meeting_flow, growth}
 use Rattle.charline.specs.Runs.{IsPlus, IsMinus, IsRise, IsDriven, IsCalmSpot, rise_size}
@@ -75,7 +74,7 @@ minus_is b r h qu qd v rise k s t value = record {
 }
 
 -- the same of numbers as they stand in words
-double : (z : ℤ) → unsigned_abs z ≤ 2000000000000000000 → FitsSigned w64 z
+pub double : (z : ℤ) → unsigned_abs z ≤ 2000000000000000000 → FitsSigned w64 z
 double z h = fits_signed_from_abs w64 z (omega arith)
 
 pub plus_from : (b r : ℕ) (h q rise : ℤ) → unsigned_abs h ≤ 100000000000 → unsigned_abs q ≤ 1000000000000 → b ≤ 10000000000000 → unsigned_abs rise ≤ 1000000000000000000

@@ -7,6 +7,7 @@ use Rattle.fixed_num.specs.Rounding.{half_up, rnd}
 use Rattle.fixed_num.proofs.Nearest.{half_up-parts, half_up-only}
 use Rattle.charline.specs.Interior.{meeting_head, meeting_flow}
 use Rattle.charline.specs.Equal.{CutsFactors, MeetHalfway, FlowByTwice}
+use Rattle.fixed_num.proofs.Between.{rnd_up}
 
 low_times : (k q n d : ℕ) → 2 * (q * d) ≤ 2 * n + d → 2 * (q * (k * d)) ≤ 2 * (k * n) + k * d
 low_times k q n d h =
@@ -23,10 +24,6 @@ half_up-cuts : (k n d : ℕ) → 0 < k → 0 < d → half_up (k * n) (k * d) ≡
 half_up-cuts k n d p o =
     let parts = half_up-parts n d o in
     sym (half_up-only (k * n) (half_up n d) (k * d) (some_times k d p o) (low_times k (half_up n d) n d parts.0) (high_times k (half_up n d) n d p parts.1))
-
-rnd_up : (n d : ℕ) → rnd (pos n) (pos d) ≡ pos (half_up n d)
-unfolding rnd
-rnd_up n d = refl
 
 rnd_down : (n d : ℕ) → rnd (negsuc n) (pos d) ≡ neg_ℤ (pos (half_up (suc n) d))
 unfolding rnd

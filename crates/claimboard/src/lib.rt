@@ -20,6 +20,7 @@ pub use board::Board;
 pub use claims::Claim;
 pub use items::Item;
 pub use laws::one_holder;
+pub use making::MOST_SEATS;
 pub use rule::Rule;
 pub use seats::{BoardSeat, Done};
 pub use views::View;

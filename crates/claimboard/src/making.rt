@@ -13,6 +13,9 @@ use atomic_table::{Refused, Table};
 use std::alloc::{AllocError, Global};
 use std::snapshot::Snapshot;
 
+/// How many seats a board may have.
+pub const MOST_SEATS: u32 = 64;
+
 impl<T: Item> Board<T> {
     /// A board of the items, all of them free, and as many seats at it as are asked for.
     pub fn make(
@@ -25,7 +28,7 @@ impl<T: Item> Board<T> {
         requires few_items { length items.items ≤ 1_048_576 }
         requires items { AreItems T.number_of T.is_finished T.is_good tag false items.items }
         requires some_seats { 0 < seats }
-        requires few_seats { seats ≤ 64 }
+        requires few_seats { seats ≤ MOST_SEATS }
         ensures items { IfOk result (λ t. t.0.table.shared.table_id.slots ≡ length items.items) }
         ensures tag { IfOk result (λ t. t.0.table.shared.key.value ≡ tag) }
         ensures count { IfOk result (λ t. length t.1.items ≡ seats) }

@@ -2,6 +2,7 @@
 use Rattle.std.specs.Prelude.{◌≡◌, ℕ, ◌+◌, ◌*◌, ◌%◌, ◌<◌, ◌≤◌, List, [], map, length}
 use Rattle.std.specs.Prelude.{slice_index_or}
 use Rattle.std.specs.List.{range_with_len}
+use Rattle.endhistory.specs.declared.history.TheConstants.{MOST_READERS, MOST_SLOTS}
 use Rattle.endhistory.specs.declared.views.Sizes.{Sizes}
 
 -- a list of blocks, each a list of words
@@ -34,11 +35,11 @@ word_count z = 1 + z.readers + z.slots * z.width
 abbrev pub sizes_of : ℕ → ℕ → ℕ → Sizes
 sizes_of slots width readers = record { slots = slots; width = width; readers = readers }
 
--- 1 to 8 slots, blocks of 1 to 65,536 words, 1 to 16 readers
+-- the slots, the words of a block and the readers that a history may have
 pub record IsSizes (z : Sizes) : Type 0 where
   pub some_slots : 0 < z.slots
-  pub few_slots : z.slots ≤ 8
+  pub few_slots : z.slots ≤ MOST_SLOTS
   pub some_width : 0 < z.width
   pub few_words : z.width ≤ 65536
   pub some_readers : 0 < z.readers
-  pub few_readers : z.readers ≤ 16
+  pub few_readers : z.readers ≤ MOST_READERS

@@ -18,6 +18,12 @@ use crate::views::{Sizes, View};
 use atomic_table::{Seat, Table};
 use std::alloc::{AllocError, Global};
 
+/// How many slots a history may have.
+pub const MOST_SLOTS: u64 = 8;
+
+/// How many readers a history may have.
+pub const MOST_READERS: u32 = 16;
+
 /// A bounded history: the published count, a passed count for each reader, and
 /// `sizes.slots` slots of `sizes.width` words, all of them atomic words. It is
 /// shared by `&` among threads; each call is made with the writer or a reader.
@@ -93,6 +99,18 @@ impl History {
         ensures { (result.table ≡ table) × (result.sizes ≡ sizes) }
     {
         History { table, sizes }
+    }
+
+    /// How many blocks are published by now: a look with no seat, on which no clause rests.
+    pub fn published(&self) -> u64 {
+        self.table.shared.peek(0)
+    }
+
+    /// How many blocks a reader has passed by now: a look with no seat, on which no clause rests.
+    pub fn passed(&self, reader: u32) -> u64
+        requires there { reader < self.now.sizes.readers }
+    {
+        self.table.shared.peek(1 + reader as usize)
     }
 
     /// Asks the readers, in order, whether the writer may publish its next

@@ -15,7 +15,7 @@ mod views;
 
 pub use answers::{Look, Vacancy};
 pub use blocks::{BlockTag, CountTag};
-pub use history::{History, Reader, Writer};
+pub use history::{History, MOST_READERS, MOST_SLOTS, Reader, Writer};
 pub use laws::{
     each_step_keeps_the_rule, fills_over_passed_blocks, seen_blocks_are_stored,
     stores_over_passed_blocks,

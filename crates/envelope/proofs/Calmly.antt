@@ -1,8 +1,8 @@
 -- What a fold stands for after points without a cavity.
-use Rattle.std.proofs.Common.{◌≡◌, ◌≢◌, ◌∙◌, ℕ, ◌+◌, ◌-◌, ◌<◌, ◌≤◌, ◌⊎◌, inl, inr, refl, sym, ap, subst, Bool, true, false, zero, suc, List, [], ◌∷◌, length, map, get_or, Option, Some, None, Box, arith}
-use Rattle.std.proofs.lemmas.List.{length-map, get_or-map}
+use Rattle.std.proofs.Common.{◌≡◌, ◌≢◌, ◌∙◌, ℕ, ◌+◌, ◌-◌, ◌<◌, ◌≤◌, ◌⊎◌, inl, inr, refl, sym, ap, subst, true, false, zero, suc, List, [], ◌∷◌, length, map, get_or, Option, Some, None, Box, arith}
+use Rattle.std.proofs.lemmas.List.{length-map}
 use Rattle.case_model.specs.declared.points.Point.{Point}
-use Rattle.case_model.specs.declared.points.Point.TheVariants.{Good, Bad}
+use Rattle.case_model.specs.declared.points.Point.TheVariants.{Bad}
 use Rattle.case_model.specs.declared.spots.Spot.{Spot}
 use Rattle.case_model.specs.Places.{is_bad}
 use Rattle.case_model.specs.Runs.{calm_at, calm_point}
@@ -25,9 +25,10 @@ use Rattle.envelope.specs.declared.extremes.Extreme.{Extreme}
 use Rattle.envelope.specs.declared.samples.Sample.{Sample as Kept}
 use Rattle.envelope.proofs.Lined.{cell-on, line-within, part-at, part-before, part-past, part-then, still-inside, whole-line}
 use Rattle.envelope.proofs.Noted.{columns-agree, nothing-more, taken-either}
-use Rattle.envelope.proofs.Placed.{or-over}
-use Rattle.envelope.proofs.Sampled.{decided, one-place}
+use Rattle.envelope.proofs.Sampled.{one-place}
 use Rattle.envelope.proofs.Standing.{same-standing, standing-here}
+use Rattle.std.proofs.lemmas.Bool.{cases_eq}
+use Rattle.fixed_num.proofs.Between.{le_or_more}
 
 -- ---- none of these points is Bad
 
@@ -57,7 +58,7 @@ pub calm-good : (spans : List (ℕ × ℕ)) (last step first : ℕ) (spots : Lis
 calm-good spans last step first spots s k l w =
     let points = map calm_point spots in
     let n : length points ≡ length spots = length-map spots calm_point in
-    elim (decided s step) [
+    elim (cases_eq s step) [
       | inr e ↦ no-bad (line_noted step first points s k) (line-then step first points s k e)
       | inl e ↦ elim (place-in k first (length spots)) [
         | inl h ↦ no-bad (line_noted step first points s k) (line-outside step first points s k (inl h))
@@ -108,9 +109,9 @@ before-cell spans bases first n k i r o a w (inr d) h e =
     absurd (omega arith)
 
 apart : (c cell n : ℕ) → ((i : ℕ) → i < n → c ≢ cell + i) → (c < cell) ⊎ (cell + n ≤ c)
-apart c cell n h = elim (or-over cell c) [
+apart c cell n h = elim (le_or_more cell c) [
   | inr a ↦ inl a
-  | inl a ↦ elim (or-over (cell + n) c) [
+  | inl a ↦ elim (le_or_more (cell + n) c) [
     | inl b ↦ inr b
     | inr b ↦ absurd (h (c - cell) (omega arith) (omega arith))
   ]

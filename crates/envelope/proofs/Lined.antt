@@ -2,7 +2,7 @@
 use Rattle.std.proofs.Common.{◌≡◌, ◌≢◌, ◌∙◌, ℕ, ◌+◌, ◌-◌, ◌<◌, ◌≤◌, ◌⊎◌, inl, inr, refl, sym, ap, subst, true, List, length, get_or, Option, Some, None, arith, eq-eqb, ne_eqb, lt-ltb, le-ltb}
 use Rattle.std.specs.Prelude.{◌==◌, ◌&&◌, nat_le, nat_lt, if◌then◌else◌}
 use Rattle.std.proofs.Math.Bool.{and-false}
-use Rattle.std.proofs.lemmas.Bool.{le-leb, lt-leb}
+use Rattle.std.proofs.lemmas.Bool.{le-leb, lt-leb, cases_eq}
 use Rattle.std.proofs.lemmas.List.{get_or_default}
 use Rattle.case_model.specs.declared.points.Point.{Point}
 use Rattle.case_model.specs.declared.points.Point.TheVariants.{Bad}
@@ -15,9 +15,10 @@ use Rattle.envelope.specs.Notings.{Noting, Noted, only, noted, line_noted, union
 use Rattle.envelope.specs.Notings.Noting.{OfPoint}
 use Rattle.envelope.specs.declared.folds.Fold.{Fold}
 use Rattle.envelope.proofs.Noted.{only-here, only-then, only-there}
-use Rattle.envelope.proofs.Placed.{placed, at-most, laid-out, or-over}
+use Rattle.envelope.proofs.Placed.{placed, at-most, laid-out}
 use Rattle.envelope.proofs.RowFolds.{held-same}
-use Rattle.envelope.proofs.Sampled.{alone, decided}
+use Rattle.envelope.proofs.Sampled.{alone}
+use Rattle.fixed_num.proofs.Between.{le_or_more}
 
 -- ---- the cells of places of one span
 
@@ -31,7 +32,7 @@ span-is : (spans : List (ℕ × ℕ)) (place i : ℕ) → IsRising spans → IsP
 span-is spans place i r p =
     let le = at-most spans place i p.there p.high in
     let q = placed spans place r (within-placed spans place i p) in
-    elim (or-over i (span_of spans place)) [
+    elim (le_or_more i (span_of spans place)) [
       | inl w ↦ omega arith
       | inr w ↦ let a = r.apart (span_of spans place) i w p.there in let h = q.high in let l = p.low in absurd (omega arith)
     ]
@@ -88,7 +89,7 @@ pub part-past : (step first count : ℕ) (points : List Point) (s k : ℕ) → f
 part-past step first count points s k h = rw (le-ltb k (first + count) h, and-false) refl
 
 pub none-yet : (step first : ℕ) (points : List Point) (s k : ℕ) → part step first 0 points s k ≡ None
-none-yet step first points s k = elim (or-over first k) [
+none-yet step first points s k = elim (le_or_more first k) [
   | inl h ↦ part-past step first 0 points s k (omega arith)
   | inr h ↦ part-before step first 0 points s k h
 ]
@@ -98,17 +99,17 @@ unfolding line_noted
 whole-line step first points s k = refl
 
 -- where a place stands to the next point of a line
-next-place : (k next : ℕ) → (k < next) ⊎ ((k ≡ next) ⊎ (next < k))
-next-place k next = grind arith
+pub where-stands : (k next : ℕ) → (k < next) ⊎ ((k ≡ next) ⊎ (next < k))
+where-stands k next = grind arith
 
 next-point : (step first i : ℕ) (points : List Point) (d : Point) (s k : ℕ) → i < length points
     → first_of (part step first i points s k) (only step (first + i) (OfPoint (get_or points i d)) s k) ≡ part step first (i + 1) points s k
 next-point step first i points d s k h =
     let x = OfPoint (get_or points i d) in
-    elim (decided s step) [
+    elim (cases_eq s step) [
       | inr e ↦ alone (part step first i points s k) (only step (first + i) x s k) (only-then step (first + i) x s k e) ∙ part-then step first i points s k e ∙ sym (part-then step first (i + 1) points s k e)
-      | inl e ↦ elim (next-place k (first + i)) [
-        | inl l ↦ alone (part step first i points s k) (only step (first + i) x s k) (only-there step (first + i) x s k (λ q. omega arith)) ∙ elim (or-over first k) [
+      | inl e ↦ elim (where-stands k (first + i)) [
+        | inl l ↦ alone (part step first i points s k) (only step (first + i) x s k) (only-there step (first + i) x s k (λ q. omega arith)) ∙ elim (le_or_more first k) [
           | inl w ↦ part-at step first i points s k e w l ∙ sym (part-at step first (i + 1) points s k e w (omega arith))
           | inr w ↦ part-before step first i points s k w ∙ sym (part-before step first (i + 1) points s k w)
         ]
@@ -125,7 +126,7 @@ next-point step first i points d s k h =
       ]
     ]
 
-assoc : {X : Type 0} (a b c : Option X) → first_of (first_of a b) c ≡ first_of a (first_of b c)
+pub assoc : {X : Type 0} (a b c : Option X) → first_of (first_of a b) c ≡ first_of a (first_of b c)
 assoc None b c = refl
 assoc (Some x) b c = refl
 
@@ -134,7 +135,7 @@ pub line-more : (map : Noted) (step first i : ℕ) (points : List Point) (d : Po
 line-more map step first i points d s k h =
     assoc (map s k) (part step first i points s k) (only step (first + i) (OfPoint (get_or points i d)) s k) ∙ ap (λ a. first_of (map s k) a) (next-point step first i points d s k h)
 
-same-first : (a b : Option Noting) (x : Noting) → b ≡ None → first_of a b ≡ Some x → a ≡ Some x
+pub same-first : (a b : Option Noting) (x : Noting) → b ≡ None → first_of a b ≡ Some x → a ≡ Some x
 same-first None b x n e = sym n ∙ e
 same-first (Some y) b x n e = e
 
@@ -148,9 +149,9 @@ pub line-agrees : (map : Noted) (step first i : ℕ) (points : List Point) (d : 
     → Agree (union map (part step first i points)) (only step (first + i) (OfPoint (get_or points i d)))
 line-agrees map step first i points d h g = λ s k a b p q.
     let x = OfPoint (get_or points i d) in
-    elim (decided s step) [
+    elim (cases_eq s step) [
       | inr e ↦ let n = only-then step (first + i) x s k e in cc
-      | inl e ↦ elim (decided k (first + i)) [
+      | inl e ↦ elim (cases_eq k (first + i)) [
         | inr f ↦ let n = only-there step (first + i) x s k f in cc
         | inl f ↦
             let w = ap (λ u. line_noted step first points u k) e ∙ ap (λ u. line_noted step first points step u) f ∙ line-point step first i points d h in

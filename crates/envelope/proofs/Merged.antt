@@ -15,9 +15,11 @@ use Rattle.envelope.specs.declared.extremes.Extreme.{Extreme}
 use Rattle.envelope.specs.declared.folds.Fold.{Fold}
 use Rattle.envelope.specs.declared.samples.Sample.{Sample as Kept}
 use Rattle.envelope.proofs.Noted.{taken-either, nothing-more, columns-agree}
-use Rattle.envelope.proofs.Placed.{within-index, or-over, laid-out}
-use Rattle.envelope.proofs.Sampled.{decided, one-place}
+use Rattle.envelope.proofs.Placed.{within-index, laid-out}
+use Rattle.envelope.proofs.Sampled.{one-place}
 use Rattle.envelope.proofs.Standing.{same-standing, standing-here, standing-elsewhere, line-width}
+use Rattle.std.proofs.lemmas.Bool.{cases_eq}
+use Rattle.fixed_num.proofs.Between.{le_or_more}
 
 pub same-layout : (fold : Fold) → IsSameLayout fold fold
 same-layout fold = record { same = record { spans_are = refl; probes_are = refl; steps_are = refl; every_is = refl }; marks_are = refl; fault_is = refl }
@@ -49,7 +51,7 @@ pub joined-on : (a other b c : Fold) (low mid high : ℕ) → IsMergeable a othe
     → AreJoined a other b low mid → AreJoined b other c mid high → AreJoined a other c low high
 joined-on a other b c low mid high g l m p q = record {
   layout = layout-on a b c p.layout q.layout;
-  joined = λ k w i j f h ag s t. elim (or-over mid k) [
+  joined = λ k w i j f h ag s t. elim (le_or_more mid k) [
     | inl v ↦ q.joined k w v j f h ag (p.kept k (g.inside k w) (inr (inl v)) f s) t
     | inr v ↦ q.kept k (within-still a b k p.layout (g.inside k w)) (inl v) (either f h) (p.joined k w i v f h ag s t)
   ];
@@ -78,7 +80,7 @@ pub record IsGap (spans : List (ℕ × ℕ)) (i n : ℕ) : Type 0 where
 pub gap-at : (spans : List (ℕ × ℕ)) (i : ℕ) → IsRising spans → i < length spans → IsGap spans i (first_of_span spans i)
 gap-at spans i r l = record {
   after = λ j h m. r.apart j i h l;
-  before = λ j h m. elim (decided j i) [
+  before = λ j h m. elim (cases_eq j i) [
     | inl e ↦ let q : i ≡ j = sym e in subst (λ z. first_of_span spans i ≤ first_of_span spans z) q (omega arith)
     | inr n ↦ let a = r.apart i j (omega arith) m in omega arith
   ];
@@ -89,8 +91,8 @@ none-between spans i n k r l g w h m =
     let a = within-index spans k w in
     let low = a.1.low in
     let high = a.1.high in
-    elim (or-over a.0 i) [
-      | inl v ↦ elim (decided a.0 i) [
+    elim (le_or_more a.0 i) [
+      | inl v ↦ elim (cases_eq a.0 i) [
         | inl e ↦ let q : end_of_span spans a.0 ≡ end_of_span spans i = ap (end_of_span spans) e in omega arith
         | inr d ↦ let b = r.apart a.0 i (omega arith) l in omega arith
       ]

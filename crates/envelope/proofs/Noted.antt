@@ -12,8 +12,9 @@ use Rattle.envelope.specs.Faults.{HasFault}
 use Rattle.envelope.specs.Notings.{Noting, Noted, only, noted, union, Agree, column, taken, is_bad_noting}
 use Rattle.envelope.specs.declared.folds.Fold.{Fold}
 use Rattle.envelope.proofs.FirstBad.{first-alone, second-alone}
-use Rattle.envelope.proofs.Sampled.{alone, decided}
+use Rattle.envelope.proofs.Sampled.{alone}
 use Rattle.envelope.proofs.Standing.{same-standing}
+use Rattle.std.proofs.lemmas.Bool.{cases_eq}
 
 pub only-here : (step place : ℕ) (x : Noting) → only step place x step place ≡ Some x
 only-here step place x = rw (eq-eqb step step refl, eq-eqb place place refl) refl
@@ -78,8 +79,8 @@ bad-only spans last step place x l w h = record {
   within = l;
   inside = w;
   bad = ap is_bad_noting (only-here step place x) ∙ h;
-  least = λ s k m v b. elim (decided s step) [
-    | inl e ↦ elim (decided k place) [
+  least = λ s k m v b. elim (cases_eq s step) [
+    | inl e ↦ elim (cases_eq k place) [
       | inl f ↦ inr (sym e, omega arith)
       | inr f ↦ absurd (none-bad (only step place x s k) (only-there step place x s k f) b)
     ]
@@ -127,6 +128,6 @@ same-fault old new m l h = subst (λ sp. HasFault sp (steps_of new) m new.fault)
 pub noted-good : (old new : Fold) (step place : ℕ) (s : Sample) (map : Noted) (x : Noting) → IsKeptAt old new step place s → taken (Some x) ≡ Some s → is_bad_noting (Some x) ≡ false
     → Agree map (only step place x) → IsHeld old map → IsHeld new (noted map step place x)
 noted-good old new step place s map x n t b g p = record {
-  places = λ k w. place-noted old new step place s map x k n t g p.places (subst (λ sp. is_within sp k ≡ true) n.layout.same.spans_are w) (decided k place);
+  places = λ k w. place-noted old new step place s map x k n t g p.places (subst (λ sp. is_within sp k ≡ true) n.layout.same.spans_are w) (cases_eq k place);
   first_fault = same-fault old new (noted map step place x) n.layout (fault-kept (spans_of old) (steps_of old) map (only step place x) old.fault g p.first_fault (good-only (spans_of old) (steps_of old) step place x b));
 }

@@ -10,7 +10,7 @@ use Rattle.case_model.specs.declared.meshes.Mesh.{Mesh}
 use Rattle.case_model.specs.declared.meshes.PipeMesh.{PipeMesh}
 use Rattle.case_model.specs.Mesh.{no_pipe, reaches, base_of, IsNumbered}
 use Rattle.case_model.specs.PlaceNumbers.{number_of, IsOn, place_among, place_at}
-use Rattle.envelope.proofs.Placed.{or-over}
+use Rattle.fixed_num.proofs.Between.{le_or_more}
 
 -- the places of some pipes
 abbrev pub all-of : List PipeMesh → ℕ
@@ -51,7 +51,7 @@ pub record IsAmong (ps : List PipeMesh) (start k j i : ℕ) : Type 0 where
 
 pub among : (ps : List PipeMesh) (start k : ℕ) → k < all-of ps → (j : ℕ) × (i : ℕ) × IsAmong ps start k j i
 among [] start k h = absurd (omega arith)
-among (p ∷ ps) start k h = elim (or-over k p.reaches) [
+among (p ∷ ps) start k h = elim (le_or_more k p.reaches) [
   | inl w ↦ (0, k, record { place = here-at start k p ps w ∙ ap (λ n. OnPipe n k) (omega arith); pipe = omega arith; within = w; count = omega arith })
   | inr w ↦
       let m = all-more p ps in
@@ -114,7 +114,7 @@ pipe-is : (mesh : Mesh) (k j i : ℕ) (at : ProbeAt) → at ≡ OnPipe j i → j
 pipe-is mesh k j i at e h l n = (subst (IsOn mesh) (sym e) (h, l), ap (number_of mesh) e ∙ n)
 
 pub number-at : (mesh : Mesh) (k : ℕ) → IsNumbered mesh → k < mesh.places → IsOn mesh (place_at mesh k) × (number_of mesh (place_at mesh k) ≡ k)
-number-at mesh k n h = elim (or-over (length mesh.ends) k) [
+number-at mesh k n h = elim (le_or_more (length mesh.ends) k) [
   | inl w ↦
       let a = n.all in
       let t = ap all-of (take_all (length mesh.pipes) mesh.pipes (omega arith)) in

@@ -5,8 +5,8 @@ use Rattle.std.proofs.lemmas.Int.{ints}
 use Rattle.case_model.specs.Samples.{Sample, head_of, volume_of, IsGreatest, IsSmallest}
 use Rattle.envelope.specs.Extremes.{greater_or, lesser_or, greatest_over, least_over, or_zero, extreme_over, IsEnvelopeOf}
 use Rattle.envelope.specs.declared.extremes.Extreme.{Extreme}
-use Rattle.envelope.proofs.Placed.{or-over}
 use Rattle.fixed_num.proofs.Orders.{less_of, not_less_of}
+use Rattle.fixed_num.proofs.Between.{le_or_more}
 
 le-both : (x y : ℤ) → x ≤ℤ y → y ≤ℤ x → x ≡ y
 le-both x y h k = omega (arith, ints)
@@ -103,7 +103,7 @@ greatest-tells value (suc last) = greatest-more value last (greatest_over value 
 
 -- there is one greatest value, and one first step of it
 not-earlier : (value : ℕ → Option ℤ) (last : ℕ) (x y : ℤ) (s t : ℕ) → x ≡ y → IsGreatest value last x s → IsGreatest value last y t → s ≤ t
-not-earlier value last x y s t e p q = elim (or-over s t) [
+not-earlier value last x y s t e p q = elim (le_or_more s t) [
   | inl h ↦ h
   | inr h ↦ absurd (p.first t h (q.stands ∙ ap (λ v. Some v) (sym e)))
 ]
@@ -191,7 +191,7 @@ least-tells value zero = least-first value (value 0) refl
 least-tells value (suc last) = least-more value last (least_over value last) (value (suc last)) (least-tells value last) refl
 
 not-sooner : (value : ℕ → Option ℤ) (last : ℕ) (x y : ℤ) (s t : ℕ) → x ≡ y → IsSmallest value last x s → IsSmallest value last y t → s ≤ t
-not-sooner value last x y s t e p q = elim (or-over s t) [
+not-sooner value last x y s t e p q = elim (le_or_more s t) [
   | inl h ↦ h
   | inr h ↦ absurd (p.first t h (q.stands ∙ ap (λ v. Some v) (sym e)))
 ]

@@ -1,10 +1,11 @@
 -- The span and the cell of a place.
-use Rattle.std.proofs.Common.{◌≡◌, ◌∙◌, ℕ, ◌+◌, ◌-◌, ◌<◌, ◌≤◌, ◌⊎◌, inl, inr, zero, suc, refl, sym, ap, subst, true, false, List, [], ◌∷◌, length, get_or, arith, le-ltb, lt-ltb}
+use Rattle.std.proofs.Common.{◌≡◌, ◌∙◌, ℕ, ◌+◌, ◌-◌, ◌<◌, ◌≤◌, inl, inr, zero, suc, refl, sym, ap, subst, true, false, List, [], ◌∷◌, length, get_or, arith, le-ltb, lt-ltb}
 use Rattle.std.specs.Prelude.{nat_lt}
 use Rattle.std.proofs.lemmas.List.Sums.{fails_before_first, passes_at_first, position_or_len_is}
 use Rattle.std.proofs.lemmas.Bool.Decides.{nat_tests}
 use Rattle.envelope.specs.Cells.{no_span, has_place, is_within, first_of_span, end_of_span, span_of, bases_after, bases_of, cell_of, IsLaidOut, IsRising, IsPlaced}
 use Rattle.case_model.proofs.ListFacts.{any-index}
+use Rattle.fixed_num.proofs.Between.{le_or_more}
 
 has-bounds : (span : ℕ × ℕ) (place : ℕ) → has_place place span ≡ true → (span.0 ≤ place) × (place < span.0 + span.1)
 has-bounds span place h = (grind (arith, nat_tests), grind (arith, nat_tests))
@@ -15,17 +16,14 @@ not-past span place h = grind (arith, nat_tests)
 past : (span : ℕ × ℕ) (place : ℕ) → nat_lt place (span.0 + span.1) ≡ true → place < span.0 + span.1
 past span place h = grind (arith, nat_tests)
 
-pub or-over : (i j : ℕ) → (i ≤ j) ⊎ (j < i)
-or-over i j = grind arith
-
 pub at-most : (spans : List (ℕ × ℕ)) (place i : ℕ) → i < length spans → place < end_of_span spans i → span_of spans place ≤ i
-at-most spans place i l h = elim (or-over (span_of spans place) i) [
+at-most spans place i l h = elim (le_or_more (span_of spans place) i) [
   | inl w ↦ w
   | inr w ↦ let e = not-past (get_or spans i no_span) place (fails_before_first (λ span. nat_lt place (span.0 + span.1)) spans i no_span w) in absurd (omega arith)
 ]
 
 same-place : (spans : List (ℕ × ℕ)) (place i q : ℕ) → IsRising spans → IsPlaced spans place i → q ≤ i → place < end_of_span spans q → IsPlaced spans place q
-same-place spans place i q r p le h = elim (or-over i q) [
+same-place spans place i q r p le h = elim (le_or_more i q) [
   | inl w ↦ let e : i ≡ q = omega arith in subst (λ z. IsPlaced spans place z) e p
   | inr w ↦ let m = r.apart q i w p.there in let n = p.low in absurd (omega arith)
 ]
@@ -76,7 +74,7 @@ bases-apart : (spans : List (ℕ × ℕ)) (i j : ℕ) → i < j → j ≤ length
 bases-apart spans i zero lt le = absurd (omega arith)
 bases-apart spans i (suc j) lt le =
     let b = base-after 0 spans j (omega arith) in
-    elim (or-over j i) [
+    elim (le_or_more j i) [
       | inl w ↦ let e : i ≡ j = omega arith in subst (λ k. get_or (bases_of spans) k 0 + (get_or spans k no_span).1 ≤ get_or (bases_of spans) (suc j) 0) (sym e) (omega arith)
       | inr w ↦ let a = bases-apart spans i j w (omega arith) in omega arith
     ]
@@ -105,7 +103,7 @@ span-next spans place index w h =
     let p = within-index spans place w in
     let l = p.1.there in
     let u = p.1.high in
-    elim (or-over p.0 index) [
+    elim (le_or_more p.0 index) [
       | inl le ↦ let a = h p.0 le in absurd (omega arith)
       | inr lt ↦ omega arith
     ]
@@ -119,7 +117,7 @@ span-found spans place index l h p =
 
 -- what holds below a number and at it holds up to it
 pub up-to : (f : ℕ → ℕ) (limit index : ℕ) → ((i : ℕ) → i < index → f i ≤ limit) → f index ≤ limit → (i : ℕ) → i ≤ index → f i ≤ limit
-up-to f limit index h l i le = elim (or-over index i) [
+up-to f limit index h l i le = elim (le_or_more index i) [
   | inl w ↦ let e : i ≡ index = omega arith in subst (λ k. f k ≤ limit) (sym e) l
   | inr w ↦ h i w
 ]

@@ -12,9 +12,9 @@ use Rattle.envelope.specs.Lines.{entry_of, told}
 use Rattle.envelope.specs.Notings.{Noted, column, taken, sample_over}
 use Rattle.envelope.specs.declared.extremes.Extreme.{Extreme}
 use Rattle.envelope.specs.declared.folds.Fold.{Fold}
-use Rattle.envelope.proofs.Placed.{or-over}
 use Rattle.envelope.proofs.Sampled.{whole-steps}
 use Rattle.envelope.proofs.Standing.{in-line}
+use Rattle.fixed_num.proofs.Between.{le_or_more}
 
 pub sampled-then : (map : Noted) (every last place step : ℕ) → step % every ≡ 0 → step ≤ last → sample_over map every last place step ≡ taken (map step place)
 unfolding sample_over
@@ -58,7 +58,7 @@ pub kept-line : (fold : Fold) (probe step line : ℕ) → step % fold.every ≡ 
 kept-line fold probe step line h l m = sym (kept-then fold probe step h l ∙ ap (λ o. told (entry_of (lines_in fold) o (step / fold.every))) m)
 
 pub all-unmet : (n i : ℕ) → get_or (replicate n unmet) i unmet ≡ unmet
-all-unmet n i = elim (or-over n i) [
+all-unmet n i = elim (le_or_more n i) [
   | inl h ↦ get_or_past (replicate n unmet) i unmet (omega (arith, length-replicate {A = Extreme}))
   | inr h ↦ get_or-replicate n i unmet unmet h
 ]

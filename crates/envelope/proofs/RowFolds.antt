@@ -1,7 +1,7 @@
 -- What a fold keeps that was told the rows of a law.
 use Rattle.std.proofs.Common.{◌≡◌, ◌≢◌, ◌∙◌, ℕ, ◌%◌, ◌<◌, ◌≤◌, ◌⊎◌, inl, inr, ℤ, refl, sym, ap, subst, true, false, List, [], ◌∷◌, length, map, get_or, Option, Some, None, arith, eq-eqb, ne_eqb}
 use Rattle.std.specs.Prelude.{◌≤ℤ◌, ◌<ℤ◌}
-use Rattle.std.proofs.lemmas.Bool.{false≢true, le-leb, lt-leb, false_from_ne_true}
+use Rattle.std.proofs.lemmas.Bool.{false≢true, le-leb, lt-leb, false_from_ne_true, cases_eq}
 use Rattle.std.proofs.lemmas.Int.{ints}
 use Rattle.std.proofs.lemmas.List.{get_or_past, get_or-map, length-map}
 use Rattle.std.proofs.Math.Bool.{and-false}
@@ -38,10 +38,9 @@ use Rattle.envelope.specs.declared.folds.Fold.{Fold}
 use Rattle.envelope.proofs.Joined.{same-extreme}
 use Rattle.envelope.proofs.Numbered.{at-number, number-within, number-at}
 use Rattle.envelope.proofs.Overall.{envelope-is, is-envelope}
-use Rattle.envelope.proofs.Placed.{or-over}
 use Rattle.envelope.proofs.Read.{sampled-then, kept-past, kept-between}
-use Rattle.envelope.proofs.Sampled.{decided}
 use Rattle.envelope.proofs.Standing.{same-standing}
+use Rattle.fixed_num.proofs.Between.{le_or_more}
 
 -- ---- a fold has in memory what it has of maps that are the same at its steps and places
 
@@ -79,7 +78,7 @@ bad-noted law s k n h =
 
 -- a number past the last place is that of no Bad place
 bad-below : (law : Meaning) (s k : ℕ) → IsNumbered law.mesh → get_or (bad_places law s) k false ≡ true → k < law.mesh.places
-bad-below law s k n t = elim (or-over law.mesh.places k) [
+bad-below law s k n t = elim (le_or_more law.mesh.places k) [
   | inl h ↦ absurd (false≢true (sym (get_or_past (bad_places law s) k false (let l = length-bad_places law s n in omega arith)) ∙ t))
   | inr h ↦ h
 ]
@@ -184,8 +183,8 @@ sample-is law case fold j step r c h =
     let e = probe-number law case fold j c h in
     let s = c.steps in
     let v = c.every in
-    elim (or-over step (steps_of fold)) [
-      | inl le ↦ elim (decided (step % every_of fold) 0) [
+    elim (le_or_more step (steps_of fold)) [
+      | inl le ↦ elim (cases_eq (step % every_of fold) 0) [
         | inl m ↦
             r.stands.samples j step there ∙ sampled-then (rows_noted law) (every_of fold) (steps_of fold) k step m le
             ∙ ap (λ i. column (rows_noted law) i step) e ∙ column-is law step at r.numbered (c.on j h)

@@ -8,7 +8,9 @@ use Rattle.envelope.specs.Cells.{is_within, cell_of, span_of, first_of_span, IsR
 use Rattle.envelope.specs.Extremes.{first_of, either, AgreeAlong}
 use Rattle.envelope.specs.Lines.{told, HasSamples, IsMarked}
 use Rattle.envelope.specs.declared.samples.Sample.{Sample as Kept}
-use Rattle.envelope.proofs.Placed.{placed, or-over}
+use Rattle.envelope.proofs.Placed.{placed}
+use Rattle.std.proofs.lemmas.Bool.{cases_eq}
+use Rattle.fixed_num.proofs.Between.{le_or_more}
 
 pub alone : {X : Type 0} (a b : Option X) → b ≡ None → first_of a b ≡ a
 alone (Some x) b h = refl
@@ -30,16 +32,10 @@ kept-at f g last every line at step s j p l e a gs gn h (inr w) b c =
     let n : j * every ≢ step = λ q. w (same-factor j at every p (q ∙ sym e)) in
     rw (get_or-set_other line at j (Some s) None w) (h j b c ∙ sym (alone (f (j * every)) (g (j * every)) (gn (j * every) n)))
 
-pub decided : (j at : ℕ) → (j ≡ at) ⊎ (j ≢ at)
-decided j at = elim (or-over j at) [
-  | inl w ↦ elim (or-over at j) [ inl v ↦ inl (omega arith) | inr v ↦ inr (λ e. omega arith) ]
-  | inr w ↦ inr (λ e. omega arith)
-]
-
 pub kept-sample : (f g : ℕ → Option Sample) (last every : ℕ) (line : List (Option Kept)) (at step : ℕ) (s : Kept) → 1 ≤ every → at < length line → at * every ≡ step → AgreeAlong f g
     → g step ≡ told (Some s) → ((u : ℕ) → u ≢ step → g u ≡ None) → HasSamples f last every line → HasSamples (either f g) last every (set line at (Some s))
 kept-sample f g last every line at step s p l e a gs gn h =
-    λ j b c. kept-at f g last every line at step s j p l e a gs gn h (decided j at) (subst (λ n. j < n) (length-set line at (Some s)) b) c
+    λ j b c. kept-at f g last every line at step s j p l e a gs gn h (cases_eq j at) (subst (λ n. j < n) (length-set line at (Some s)) b) c
 
 pub not-sampled : (f g : ℕ → Option Sample) (last every : ℕ) (line : List (Option Kept)) (step : ℕ) → step % every ≢ 0
     → ((u : ℕ) → u ≢ step → g u ≡ None) → HasSamples f last every line → HasSamples (either f g) last every line
@@ -71,8 +67,8 @@ same-span spans bases k l r wk wl h e =
 
 pub one-place : (spans : List (ℕ × ℕ)) (bases : List ℕ) (k l : ℕ) → IsRising spans → IsLaidOut spans bases → is_within spans k ≡ true → is_within spans l ≡ true
     → cell_of spans bases k ≡ cell_of spans bases l → k ≡ l
-one-place spans bases k l r o wk wl e = elim (or-over (span_of spans k) (span_of spans l)) [
-  | inl a ↦ elim (or-over (span_of spans l) (span_of spans k)) [
+one-place spans bases k l r o wk wl e = elim (le_or_more (span_of spans k) (span_of spans l)) [
+  | inl a ↦ elim (le_or_more (span_of spans l) (span_of spans k)) [
     | inl b ↦ same-span spans bases k l r wk wl (omega arith) e
     | inr b ↦ let c = cells-in-order spans bases k l r o wk wl b in absurd (omega arith)
   ]
@@ -82,7 +78,7 @@ one-place spans bases k l r o wk wl e = elim (or-over (span_of spans k) (span_of
 pub marked-more : (spans : List (ℕ × ℕ)) (bases probes : List ℕ) (n c : ℕ) (marks : List (Option ℕ)) → IsMarked spans bases probes n marks → c ≡ cell_of spans bases (get_or probes n 0) → c < length marks
     → IsMarked spans bases probes (n + 1) (set marks c (Some n))
 marked-more spans bases probes n c marks h e l = record {
-  own = λ d line q. elim (decided d c) [
+  own = λ d line q. elim (cases_eq d c) [
     | inl w ↦
         let k : Some n ≡ Some line = sym (get_or-set_same marks c (Some n) None l) ∙ ap (λ i. get_or (set marks c (Some n)) i None) (sym w) ∙ q in
         let m : n ≡ line = cc in
@@ -92,10 +88,10 @@ marked-more spans bases probes n c marks h e l = record {
         let b : line < n = k.0 in
         (omega arith, k.1)
   ];
-  each = λ p b. elim (decided (cell_of spans bases (get_or probes p 0)) c) [
+  each = λ p b. elim (cases_eq (cell_of spans bases (get_or probes p 0)) c) [
     | inl w ↦ λ q.
         let k : Some n ≡ None = sym (get_or-set_same marks c (Some n) None l) ∙ ap (λ i. get_or (set marks c (Some n)) i None) (sym w) ∙ q in cc
-    | inr w ↦ λ q. elim (decided p n) [
+    | inr w ↦ λ q. elim (cases_eq p n) [
       | inl v ↦ w (ap (λ i. cell_of spans bases (get_or probes i 0)) v ∙ sym e)
       | inr v ↦ h.each p (omega arith) (sym (get_or-set_other marks c (cell_of spans bases (get_or probes p 0)) (Some n) None w) ∙ q)
     ]

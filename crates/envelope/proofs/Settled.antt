@@ -4,17 +4,18 @@ use Rattle.std.proofs.Common.{◌≡◌, ◌≢◌, ◌∙◌, ℕ, ◌+◌, ◌
 use Rattle.std.specs.Prelude.{◌≤ℤ◌, IfSome, pos}
 use Rattle.std.proofs.lemmas.Int.{ints}
 use Rattle.case_model.specs.declared.points.Point.{Point}
-use Rattle.case_model.specs.declared.points.Point.TheVariants.{Good, Bad}
+use Rattle.case_model.specs.declared.points.Point.TheVariants.{Good}
 use Rattle.case_model.specs.declared.spots.Spot.{Spot}
 use Rattle.case_model.specs.Runs.{calm_at, calm_point}
 use Rattle.case_model.proofs.Running.{calm_spot}
-use Rattle.case_model.specs.Samples.{Sample, head_of, volume_of, IsGreatest, IsSmallest, point_sample}
+use Rattle.case_model.specs.Samples.{head_of, volume_of, IsGreatest, IsSmallest}
 use Rattle.envelope.specs.Calm.{IsSettled, Joins}
-use Rattle.envelope.specs.Extremes.{first_of, either, AgreeAlong, HasExtreme, IsEnvelopeOf, unmet}
+use Rattle.envelope.specs.Extremes.{first_of, either, unmet}
 use Rattle.envelope.specs.declared.extremes.Extreme.{Extreme}
 use Rattle.envelope.proofs.Greatest.{same-greatest, same-smallest}
 use Rattle.envelope.proofs.Joined.{head-either, volume-either, met}
-use Rattle.envelope.proofs.Sampled.{alone, decided}
+use Rattle.envelope.proofs.Sampled.{alone}
+use Rattle.std.proofs.lemmas.Bool.{cases_eq}
 
 bounded : (a b : Option ℤ) (P : ℤ → Type 0) → IfSome a P → IfSome b P → IfSome (first_of a b) P
 bounded None b P h k = k
@@ -33,7 +34,7 @@ first-stands (Some y) b x e = e
 first-stands None b x e = cc
 
 alone-bound : (g : ℕ → Option ℤ) (step s : ℕ) (y : ℤ) (P : ℤ → Type 0) → g step ≡ Some y → ((u : ℕ) → u ≢ step → g u ≡ None) → P y → IfSome (g s) P
-alone-bound g step s y P e n h = elim (decided s step) [
+alone-bound g step s y P e n h = elim (cases_eq s step) [
   | inl w ↦ one-bound (g s) y P (ap g w ∙ e) h
   | inr w ↦ no-bound (g s) P (n s w)
 ]
@@ -89,7 +90,7 @@ pub joined-more : (spots : List Spot) (first i step : ℕ) (old mid new : List E
     → ((c : ℕ) → c ≢ first + i → get_or new c unmet ≡ get_or mid c unmet) → length new ≡ length mid
     → HaveJoined spots first (i + 1) step old new
 joined-more spots first i step old mid new spot l e h j o n = record {
-  here = λ k b. elim (decided k i) [
+  here = λ k b. elim (cases_eq k i) [
     | inl w ↦
         subst (λ z. Joins (get_or old (first + z) unmet) (get_or new (first + z) unmet) step (calm_at spots z)) (sym w)
         (join-retaken (get_or old (first + i) unmet) (get_or mid (first + i) unmet) (get_or new (first + i) unmet) (get_or new (first + i) unmet) step (calm_at spots i) (calm_point spot)

@@ -1,5 +1,5 @@
 -- The samples of points without a cavity, one point more.
-use Rattle.std.proofs.Common.{◌≡◌, ◌≢◌, ◌∙◌, ℕ, ◌+◌, ◌<◌, ◌≤◌, refl, sym, ap, subst, inl, inr, List, [], length, get_or, Option, Some, None, arith}
+use Rattle.std.proofs.Common.{◌≡◌, ◌≢◌, ◌∙◌, ℕ, ◌+◌, ◌<◌, refl, sym, ap, subst, inl, inr, List, [], length, get_or, Option, Some, None, arith}
 use Rattle.case_model.specs.declared.spots.Spot.{Spot}
 use Rattle.case_model.specs.Runs.{calm_at, calm_point}
 use Rattle.case_model.specs.Samples.{Sample, point_sample}
@@ -7,7 +7,7 @@ use Rattle.case_model.proofs.Running.{calm_spot}
 use Rattle.envelope.specs.Extremes.{either, AgreeAlong}
 use Rattle.envelope.specs.Lines.{AreSameWidths, HasRoom, HasSamples}
 use Rattle.envelope.specs.declared.samples.Sample.{Sample as Kept}
-use Rattle.envelope.proofs.Sampled.{decided}
+use Rattle.std.proofs.lemmas.Bool.{cases_eq}
 
 -- the first so many of these points are kept in the lines of the cells from `first` on
 pub record HaveKept (spots : List Spot) (marks : List (Option ℕ)) (first count step every : ℕ) (old new : List (List (Option Kept))) : Type 0 where
@@ -42,7 +42,7 @@ pub kept-more : (spots : List Spot) (marks : List (Option ℕ)) (first i step ev
     → HaveKept spots marks first i step every old mid → IsKeptIn marks (first + i) step every spot mid new
     → HaveKept spots marks first (i + 1) step every old new
 kept-more spots marks first i step every old mid new spot l e own h k = record {
-  here = λ j line last f g b a m gs gn p. elim (decided j i) [
+  here = λ j line last f g b a m gs gn p. elim (cases_eq j i) [
     | inl w ↦
         let m' : get_or marks (first + i) None ≡ Some line = ap (λ z. get_or marks (first + z) None) (sym w) ∙ m in
         k.here line last f g a m' (gs ∙ ap (λ z. point_sample (calm_at spots z)) w ∙ ap point_sample (calm_spot spots i spot l ∙ ap calm_point (sym e))) gn

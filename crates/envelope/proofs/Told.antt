@@ -8,10 +8,12 @@ use Rattle.envelope.specs.Layout.{IsHeld, marks_in, lines_in}
 use Rattle.envelope.specs.Lines.{told, HasSamples}
 use Rattle.envelope.specs.Notings.{Noted, column, sample_over}
 use Rattle.envelope.specs.declared.folds.Fold.{Fold}
-use Rattle.envelope.proofs.Placed.{or-over, laid-out}
+use Rattle.envelope.proofs.Placed.{laid-out}
 use Rattle.envelope.proofs.Read.{between-sampled, kept-between, kept-line, kept-past, line-by, past-sampled, sampled, sampled-then}
 use Rattle.envelope.proofs.RowFolds.{held-same}
-use Rattle.envelope.proofs.Sampled.{decided, one-place}
+use Rattle.envelope.proofs.Sampled.{one-place}
+use Rattle.std.proofs.lemmas.Bool.{cases_eq}
+use Rattle.fixed_num.proofs.Between.{le_or_more}
 
 -- a line of samples is that of a probe, of which the fold tells each sample
 line-held : (fold : Fold) (map : Noted) (k line : ℕ) → Stands fold map → is_within fold.spans.items k ≡ true
@@ -42,8 +44,8 @@ sample-told : (fold : Fold) (map : Noted) (probe step : ℕ) → IsHeld fold map
     → sample_kept fold probe step ≡ sample_over map fold.every fold.steps (get_or (probes_of fold) probe 0) step
 sample-told fold map probe step h l =
     let at = get_or (probes_of fold) probe 0 in
-    elim (or-over step fold.steps) [
-      | inl le ↦ elim (decided (step % fold.every) 0) [
+    elim (le_or_more step fold.steps) [
+      | inl le ↦ elim (cases_eq (step % fold.every) 0) [
         | inl m ↦
             let a = line-by (get_or (marks_in fold) (cell_of fold.spans.items (bases_of fold.spans.items) at) None) (fold.marked.each probe l) in
             sym (kept-line fold probe step a.0 m le a.1) ∙ sampled fold map probe step a.0 h l le m a.1

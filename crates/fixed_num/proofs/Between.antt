@@ -7,9 +7,9 @@ use Rattle.fixed_num.specs.Rounding.{half_up, rnd}
 use Rattle.std.specs.List.{AllByRecursion}
 use Rattle.fixed_num.specs.Tables.{entry_at, Rises, on_line, interp, IsBetween, IsInterpolated}
 use Rattle.fixed_num.proofs.Nearest.{half_up-parts, half_up-only}
-use Rattle.fixed_num.proofs.Orders.{not_less_at}
+use Rattle.fixed_num.proofs.Orders.{not_less_at, less_at, less_of, not_less_of}
 
-le_or_more : (k m : ℕ) → (k ≤ m) ⊎ (m < k)
+pub le_or_more : (k m : ℕ) → (k ≤ m) ⊎ (m < k)
 le_or_more k m = grind arith
 
 too_much : (k m x d : ℕ) → x < d → 2 * (k * d) ≤ 2 * (m * x) + d → m < k → ⊥
@@ -99,16 +99,13 @@ first_least a (b ∷ points) (suc k) r h =
     let here = r 0 (omega arith) in
     omega (arith, ints, later, here)
 
-before_it : (t u : ℤ) → t <ℤ u → int_lt t u ≡ true
-before_it t u h = grind (arith, ints)
-
 -- the value of a table between two neighbouring points
 pub on_segment : (points : List (ℤ × ℤ)) (t : ℤ) (k : ℕ) → Rises points → k + 1 < length points → (entry_at points k).0 ≤ℤ t → t <ℤ (entry_at points (k + 1)).0
     → interp points t ≡ on_line (entry_at points k) (entry_at points (k + 1)) t
 unfolding interp
 on_segment [] t k r h low high = absurd (omega (arith, h))
 on_segment (a ∷ []) t k r h low high = absurd (omega (arith, h))
-on_segment (a ∷ b ∷ points) t zero r h low high = rw (before_it t b.0 high) (rw (not_less_at t a.0 low) refl)
+on_segment (a ∷ b ∷ points) t zero r h low high = rw (less_at t b.0 high) (rw (not_less_at t a.0 low) refl)
 on_segment (a ∷ b ∷ points) t (suc k) r h low high =
     let later = first_least b points k (rises_on a b points r) (omega (arith, h)) in
     let e : suc k + 1 ≡ suc (k + 1) = omega arith in
@@ -141,14 +138,14 @@ same_or_before t u h = grind (arith, ints)
 
 first_segment : (a b : ℤ × ℤ) (t : ℤ) → a.0 <ℤ b.0 → (t ≡ a.0) ⊎ (t <ℤ a.0) → cond (int_lt t a.0) a.1 (on_line a b t) ≡ a.1
 first_segment a b t w (inl e) = rw (not_less_at t a.0 (omega (arith, ints, e))) (ap (λ (x : ℤ). on_line a b x) e ∙ at_start a b w)
-first_segment a b t w (inr h) = rw (before_it t a.0 h) refl
+first_segment a b t w (inr h) = rw (less_at t a.0 h) refl
 
 pub first_value : (a : ℤ × ℤ) (points : List (ℤ × ℤ)) (t : ℤ) → Rises (a ∷ points) → t ≤ℤ a.0 → interp (a ∷ points) t ≡ a.1
 unfolding interp
 first_value a [] t r h = refl
 first_value a (b ∷ points) t r h =
     let w = positive_width a.0 b.0 (r 0 (omega arith)) in
-    rw (before_it t b.0 (omega (arith, ints, w, h))) (first_segment a b t w (same_or_before t a.0 h))
+    rw (less_at t b.0 (omega (arith, ints, w, h))) (first_segment a b t w (same_or_before t a.0 h))
 
 pub last_value : (points : List (ℤ × ℤ)) (t : ℤ) → 0 < length points → Rises points → (entry_at points (length points - 1)).0 ≤ℤ t → interp points t ≡ (entry_at points (length points - 1)).1
 unfolding interp
@@ -176,7 +173,7 @@ part_within : (least most v0 v1 r : ℤ) → IsBetween least most v0 → IsBetwe
 part_within least most v0 v1 r h k p (inl s) = let q = p.up s in record { low = omega (arith, ints, h.low, q.0); high = omega (arith, ints, k.high, q.1) }
 part_within least most v0 v1 r h k p (inr s) = let q = p.down s in record { low = omega (arith, ints, k.low, q.0); high = omega (arith, ints, h.high, q.1) }
 
-line_within : (least most : ℤ) (a b : ℤ × ℤ) (t : ℤ) → IsBetween least most a.1 → IsBetween least most b.1 → a.0 ≤ℤ t → t <ℤ b.0 → IsBetween least most (on_line a b t)
+pub line_within : (least most : ℤ) (a b : ℤ × ℤ) (t : ℤ) → IsBetween least most a.1 → IsBetween least most b.1 → a.0 ≤ℤ t → t <ℤ b.0 → IsBetween least most (on_line a b t)
 unfolding on_line
 line_within least most a b t h k low high =
     part_within least most a.1 b.1 (rnd ((b.1 -ℤ a.1) *ℤ (t -ℤ a.0)) (b.0 -ℤ a.0)) h k
@@ -187,19 +184,13 @@ chosen_within : (least most : ℤ) (choice : Bool) (x y : ℤ) → (choice ≡ t
 chosen_within least most true x y h k = h refl
 chosen_within least most false x y h k = k refl
 
-is_before : (t u : ℤ) → int_lt t u ≡ true → t <ℤ u
-is_before t u h = grind (arith, ints)
-
-is_after : (t u : ℤ) → int_lt t u ≡ false → u ≤ℤ t
-is_after t u h = grind (arith, ints)
-
 pub interp_within : (least most : ℤ) (points : List (ℤ × ℤ)) (t : ℤ) → 0 < length points → AllByRecursion (λ e. IsBetween least most e.1) points → IsBetween least most (interp points t)
 unfolding interp
 interp_within least most [] t s h = absurd (omega (arith, s))
 interp_within least most (a ∷ []) t s h = h.0
 interp_within least most (a ∷ b ∷ points) t s h =
     chosen_within least most (int_lt t b.0) (cond (int_lt t a.0) a.1 (on_line a b t)) (interp (b ∷ points) t)
-    (λ before. chosen_within least most (int_lt t a.0) a.1 (on_line a b t) (λ e. h.0) (λ e. line_within least most a b t h.0 h.1.0 (is_after t a.0 e) (is_before t b.0 before)))
+    (λ before. chosen_within least most (int_lt t a.0) a.1 (on_line a b t) (λ e. h.0) (λ e. line_within least most a b t h.0 h.1.0 (not_less_of t a.0 e) (less_of t b.0 before)))
     (λ e. interp_within least most (b ∷ points) t (omega arith) h.1)
 
 -- the value of a table at and before its first point

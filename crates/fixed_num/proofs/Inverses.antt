@@ -1,5 +1,5 @@
 -- The quotient by a product and a shift is the rounded one.
-use Rattle.std.proofs.Common.{ℕ, zero, suc, ◌+◌, ◌-◌, ◌*◌, ◌/◌, ◌%◌, ◌^◌, ◌<◌, ◌≤◌, ◌≡◌, ap, sym, subst, refl, ◌∙◌, arith, add-one, ℤ, pos, negsuc, neg_ℤ, ◌+ℤ◌, ◌-ℤ◌, ◌*ℤ◌, ◌≤ℤ◌, ◌<ℤ◌, unsigned_abs, inl, inr, w64, FitsSigned}
+use Rattle.std.proofs.Common.{ℕ, zero, suc, ◌+◌, ◌-◌, ◌*◌, ◌/◌, ◌^◌, ◌<◌, ◌≤◌, ◌≡◌, ap, sym, subst, refl, ◌∙◌, arith, add-one, ℤ, pos, negsuc, neg_ℤ, ◌+ℤ◌, ◌*ℤ◌, unsigned_abs, inl, inr, w64, FitsSigned}
 use Rattle.std.specs.Int.Signed.{shr_z}
 use Rattle.std.proofs.lemmas.Int.{ints, unsigned_abs-mul, fits_signed_from_abs}
 use Rattle.std.proofs.lemmas.Bool.{cases_lt}
@@ -8,18 +8,13 @@ use Rattle.fixed_num.specs.Rounding.{half_up, rnd}
 use Rattle.fixed_num.proofs.Nearest.{half_up-parts}
 use Rattle.fixed_num.proofs.Fits.{size}
 use Rattle.fixed_num.specs.Reciprocals.{IsReciprocal, upper, shifted_half_up}
-
-cancel_lt : (a b c : ℕ) → a * c < b * c → a < b
-cancel_lt a b c h = elim (cases_lt a b) [
-  | inl p ↦ p
-  | inr p ↦ let m : b * c ≤ a * c = mul-le b c a c p (omega arith) in absurd (omega arith)
-]
+use Rattle.std.proofs.Math.Nat.{lt_of_mul-lt-mul_right}
 
 -- a factor of the half, by which the divisor 2 g is a little over 2 half
 product_above : (n q g half factor e : ℕ) → 0 < n → 0 < e → factor * (2 * g) ≡ 2 * half + e → 2 * q * g ≤ n + g
     → 2 * q * half < n * factor + half
 product_above n q g half factor e some more f h =
-    cancel_lt (2 * q * half) (n * factor + half) (2 * g)
+    lt_of_mul-lt-mul_right (2 * g) {m = 2 * q * half} {n = n * factor + half}
     (let a : (2 * q * g) * (2 * half) ≤ (n + g) * (2 * half) = mul-le (2 * q * g) (2 * half) (n + g) (2 * half) h (omega arith) in
     let b : n * (factor * (2 * g)) ≡ n * (2 * half + e) = ap (λ (x : ℕ). n * x) f in
     let c : 1 * 1 ≤ n * e = mul-le 1 1 n e some more in
@@ -28,7 +23,7 @@ product_above n q g half factor e some more f h =
 product_below : (n q g half factor e : ℕ) → factor * (2 * g) ≡ 2 * half + e → n * e < 2 * half → n + g < 2 * q * g + 2 * g
     → n * factor < 2 * q * half + half
 product_below n q g half factor e f small h =
-    cancel_lt (n * factor) (2 * q * half + half) (2 * g)
+    lt_of_mul-lt-mul_right (2 * g) {m = n * factor} {n = 2 * q * half + half}
     (let a : (n + 1) * (2 * half) ≤ (2 * q * g + g) * (2 * half) = mul-le (n + 1) (2 * half) (2 * q * g + g) (2 * half) (omega arith) (omega arith) in
     let b : n * (factor * (2 * g)) ≡ n * (2 * half + e) = ap (λ (x : ℕ). n * x) f in
     omega arith)

@@ -13,3 +13,9 @@ not_less_at x y h = grind (arith, ints)
 
 pub at_most_of : (x y : ℤ) → int_le x y ≡ true → x ≤ℤ y
 at_most_of x y h = grind (arith, ints)
+
+pub at_most_at : (x y : ℤ) → x ≤ℤ y → int_le x y ≡ true
+at_most_at x y h = grind (arith, ints)
+
+pub less_at : (x y : ℤ) → x <ℤ y → int_lt x y ≡ true
+less_at x y h = grind (arith, ints)

@@ -1,30 +1,19 @@
 -- The points of a stretch, by where its lists keep them.
-use Rattle.std.proofs.Common.{◌≡◌, ◌≢◌, ◌∙◌, ℕ, ◌+◌, ◌-◌, ◌%◌, ◌<◌, ◌≤◌, ◌⊎◌, inl, inr, refl, sym, ap, subst, List, map, length, get_or, set, Bool, true, false, arith}
-use Rattle.std.specs.Prelude.{not, nat_lt, nat_eq, ◌==◌, ℤ}
-use Rattle.std.proofs.lemmas.Bool.{lt-ltb, le-ltb, eq-eqb, ne_eqb}
-use Rattle.std.proofs.lemmas.List.{get_or-map, get_or_past, get_or-set_same, get_or-set_other, length-map, length-set, map-set}
+use Rattle.std.proofs.Common.{◌≡◌, ◌≢◌, ◌∙◌, ℕ, ◌+◌, ◌-◌, ◌<◌, ◌≤◌, ◌⊎◌, inl, inr, refl, sym, ap, subst, List, map, length, get_or, set, Bool, true, false, arith}
+use Rattle.std.proofs.lemmas.Bool.{lt-ltb, le-ltb, cases_lt}
+use Rattle.std.proofs.lemmas.List.{get_or-map, get_or_past, get_or-set_same, get_or-set_other, length-map, map-set}
 use Rattle.case_model.specs.declared.points.Point.{Point}
 use Rattle.case_model.specs.declared.points.Point.TheVariants.{Bad}
-use Rattle.case_model.specs.declared.spots.Spot.{Spot}
 use Rattle.case_model.specs.Meaning.{Meaning}
 use Rattle.case_model.specs.Mesh.{reaches}
-use Rattle.case_model.specs.Runs.{calm_at, calm_point}
-use Rattle.fronts.specs.Bands.{IsOnMesh, IsStepped, later_point}
+use Rattle.case_model.specs.Runs.{calm_at}
+use Rattle.fronts.specs.Bands.{IsOnMesh}
 use Rattle.fronts.specs.Cavities.{cavity_at, no_cavity, volume_and_flow, with_cavity}
 use Rattle.fronts.specs.declared.cavities.Cavity.{Cavity}
 use Rattle.fronts.specs.declared.stretches.Stretch.{Stretch}
-use Rattle.fronts.specs.Stretches.{AreSameKept, AreSamePlaces, IsPut, IsPutIn, IsSet, count_of, is_even, kept, kept_in, point_in, slot}
+use Rattle.fronts.specs.Stretches.{AreSameKept, AreSamePlaces, IsPut, IsPutIn, IsSet, count_of, is_even, kept_in, point_in, slot}
 
 -- ---- lists of spots and of cavities in which one is set
-
-pub calm-set : (spots : List Spot) (k : ℕ) (x : Spot) → k < length spots → calm_at (set spots k x) k ≡ calm_point x
-calm-set spots k x h =
-    ap (λ ps. get_or ps k Bad) (map-set calm_point spots k x)
-    ∙ get_or-set_same (map calm_point spots) k (calm_point x) Bad (omega (arith, length-map spots calm_point, h))
-
-pub calm-beside : (spots : List Spot) (k j : ℕ) (x : Spot) → j ≢ k → calm_at (set spots k x) j ≡ calm_at spots j
-calm-beside spots k j x n =
-    ap (λ ps. get_or ps j Bad) (map-set calm_point spots k x) ∙ get_or-set_other (map calm_point spots) k j (calm_point x) Bad n
 
 pub cavity-set : (cavities : List Cavity) (k : ℕ) (x : Cavity) → k < length cavities → cavity_at (set cavities k x) k ≡ volume_and_flow x
 cavity-set cavities k x h =
@@ -56,15 +45,12 @@ kept-past s e x h = rw (le-ltb x s.count h) refl
 pub kept-calm : (s : Stretch) (e : Bool) (x : ℕ) → s.calm ≡ true → x < count_of s → kept_in s e x ≡ calm_at s.spots.items (slot (count_of s) e x)
 kept-calm s e x c h = kept-there s e x h ∙ in-calm s (slot (count_of s) e x) c
 
-over : (x n : ℕ) → (x < n) ⊎ (n ≤ x)
-over x n = grind arith
-
 -- ---- stretches that keep the same
 
 pub kept-same : (old new : Stretch) → AreSameKept old new → (e : Bool) (x : ℕ) → kept_in new e x ≡ kept_in old e x
 kept-same old new s e x =
     let n : count_of new ≡ count_of old = s.same.count_is in
-    elim (over x (count_of old)) [
+    elim (cases_lt x (count_of old)) [
       | inl h ↦ kept-there new e x (omega arith) ∙ ap (λ c. point_in new (slot c e x)) n ∙ s.points (slot (count_of old) e x) ∙ sym (kept-there old e x h)
       | inr h ↦ kept-past new e x (omega arith) ∙ sym (kept-past old e x h)
     ]
@@ -114,7 +100,7 @@ still : (even : Bool) (place : ℕ) (point : Point) (old new : Stretch) → plac
     → (e : Bool) (x : ℕ) → (x ≢ place) ⊎ (e ≢ even) → kept_in new e x ≡ kept_in old e x
 still even place point old new h p e x d =
     let n : count_of new ≡ count_of old = p.same.count_is in
-    elim (over x (count_of old)) [
+    elim (cases_lt x (count_of old)) [
       | inl l ↦
           kept-there new e x (omega arith) ∙ ap (λ c. point_in new (slot c e x)) n
           ∙ p.beside (slot (count_of old) e x) (slots-apart (count_of old) e even x place l h d) ∙ sym (kept-there old e x l)
@@ -169,17 +155,17 @@ settled old new s co cn e h = record {
 
 pub cleared-more : (cavities : List Cavity) (i : ℕ) (x : Cavity) → i < length cavities → volume_and_flow x ≡ no_cavity
     → ((k : ℕ) → k < i → cavity_at cavities k ≡ no_cavity) → (k : ℕ) → k < i + 1 → cavity_at (set cavities i x) k ≡ no_cavity
-cleared-more cavities i x l e h k b = elim (over k i) [
+cleared-more cavities i x l e h k b = elim (cases_lt k i) [
   | inl a ↦ cavity-beside cavities i k x (λ q. absurd (omega arith)) ∙ h k a
   | inr a ↦ let q : k ≡ i = omega arith in ap (cavity_at (set cavities i x)) q ∙ cavity-set cavities i x l ∙ e
 ]
 
 pub cleared-all : (cavities : List Cavity) (i : ℕ) → length cavities ≤ i → ((k : ℕ) → k < i → cavity_at cavities k ≡ no_cavity) → (k : ℕ) → cavity_at cavities k ≡ no_cavity
-cleared-all cavities i l h k = elim (over k i) [ inl a ↦ h k a | inr a ↦ cavity-past cavities k (omega arith) ]
+cleared-all cavities i l h k = elim (cases_lt k i) [ inl a ↦ h k a | inr a ↦ cavity-past cavities k (omega arith) ]
 
 pub none-more : (cavities : List Cavity) (i : ℕ) (x : Cavity) → i < length cavities → x ≡ get_or cavities i x → ((p : Point) → with_cavity p (volume_and_flow x) ≡ p)
     → ((k : ℕ) → k < i → (p : Point) → with_cavity p (cavity_at cavities k) ≡ p) → (k : ℕ) → k < i + 1 → (p : Point) → with_cavity p (cavity_at cavities k) ≡ p
-none-more cavities i x l e n h k b p = elim (over k i) [
+none-more cavities i x l e n h k b p = elim (cases_lt k i) [
   | inl a ↦ h k a p
   | inr a ↦
       let q : k ≡ i = omega arith in
@@ -188,7 +174,7 @@ none-more cavities i x l e n h k b p = elim (over k i) [
 
 pub none-all : (cavities : List Cavity) (i : ℕ) → length cavities ≤ i → ((k : ℕ) → k < i → (p : Point) → with_cavity p (cavity_at cavities k) ≡ p)
     → (k : ℕ) (p : Point) → with_cavity p (cavity_at cavities k) ≡ p
-none-all cavities i l h k p = elim (over k i) [ inl a ↦ h k a p | inr a ↦ ap (with_cavity p) (cavity-past cavities k (omega arith)) ∙ with-none p ]
+none-all cavities i l h k p = elim (cases_lt k i) [ inl a ↦ h k a p | inr a ↦ ap (with_cavity p) (cavity-past cavities k (omega arith)) ∙ with-none p ]
 
 pub kept-still : (s : Stretch) → AreSameKept s s
 kept-still s = record { same = record { pipe_is = refl; first_is = refl; number_is = refl; count_is = refl }; points = λ k. refl }

@@ -1,8 +1,8 @@
 -- A run of places as the line of points that a fold is told.
-use Rattle.std.proofs.Common.{◌≡◌, ℕ, ◌+◌, ◌-◌, ◌<◌, ◌≤◌, ◌⊎◌, inl, inr, ◌∙◌, ap, sym, List, map, length, get_or, take, drop, refl, arith, Bool, true, false, cond, Option, Some, None}
+use Rattle.std.proofs.Common.{◌≡◌, ℕ, ◌+◌, ◌-◌, ◌<◌, ◌≤◌, ◌⊎◌, inl, inr, ◌∙◌, ap, sym, List, map, length, get_or, take, drop, refl, arith, Bool, true, false, cond, Some, None}
 use Rattle.std.specs.Prelude.{◌≢◌}
 use Rattle.std.proofs.Math.Bool.{and-false}
-use Rattle.std.proofs.lemmas.Bool.{eq-eqb, ne_eqb, lt-ltb, le-ltb, le-leb, lt-leb}
+use Rattle.std.proofs.lemmas.Bool.{eq-eqb, ne_eqb, lt-ltb, le-ltb, le-leb, lt-leb, cases_eq}
 use Rattle.std.proofs.lemmas.List.{length-drop, length-map, length-take-le}
 use Rattle.case_model.specs.declared.points.Point.{Point}
 use Rattle.case_model.specs.declared.points.Point.TheVariants.{Bad}
@@ -17,19 +17,12 @@ use Rattle.fronts.specs.Noted.{run_noted}
 use Rattle.fronts.specs.Stretches.{count_of, is_even, kept, slot}
 use Rattle.fronts.proofs.Keeping.{kept-calm}
 use Rattle.fronts.proofs.Making.{part-at}
+use Rattle.envelope.proofs.Lined.{where-stands, assoc, same-first}
+use Rattle.envelope.proofs.Sampled.{alone}
 
 -- a number is before these, behind them or among them
 pub where-is : (k low high : ℕ) → (k < low) ⊎ ((high ≤ k) ⊎ ((low ≤ k) × (k < high)))
 where-is k low high = grind arith
-
-pub is-now : (s step : ℕ) → (s ≡ step) ⊎ (s ≢ step)
-is-now s step = elim (below s step) [
-  | inl a ↦ inr (λ e. omega arith)
-  | inr a ↦ elim a [ inl e ↦ inl e | inr b ↦ inr (λ e. omega arith) ]
-]
-  where
-    below : (x y : ℕ) → (x < y) ⊎ ((x ≡ y) ⊎ (y < x))
-    below x y = grind arith
 
 line-before : (first : ℕ) (points : List Point) (step s k : ℕ) → (s ≢ step) ⊎ ((k < first) ⊎ (first + length points ≤ k))
     → line_noted step first points s k ≡ None
@@ -62,7 +55,7 @@ pub run-line : (stretch : Stretch) (part : List Point) (step low high : ℕ) →
     → ((j : ℕ) → j < high - low → get_or part j Bad ≡ kept stretch step (low + j)) → (s k : ℕ)
     → line_noted step (stretch.number + low) part s k ≡ run_noted stretch step low high s k
 run-line stretch part step low high l n at s k =
-    elim (is-now s step) [
+    elim (cases_eq s step) [
       | inl e ↦ elim (where-is k (stretch.number + low) (stretch.number + high)) [
         | inl h ↦
             line-before (stretch.number + low) part step s k (inr (inl h))
@@ -128,25 +121,18 @@ none-noted stretch step low s k = elim (where-is k (stretch.number + low) (stret
   ]
 ]
 
-lone : {X : Type 0} (a b : Option X) → b ≡ None → first_of a b ≡ a
-lone (Some x) b h = refl
-lone None b h = h
-
-next-place : (k next : ℕ) → (k < next) ⊎ ((k ≡ next) ⊎ (next < k))
-next-place k next = grind arith
-
 run-more : (stretch : Stretch) (step low place s k : ℕ) → low ≤ place
     → first_of (run_noted stretch step low place s k) (only step (stretch.number + place) (OfPoint (kept stretch step place)) s k) ≡ run_noted stretch step low (place + 1) s k
 run-more stretch step low place s k l =
     let x = OfPoint (kept stretch step place) in
     let at = stretch.number + place in
-    elim (is-now s step) [
+    elim (cases_eq s step) [
       | inr e ↦
-          lone (run_noted stretch step low place s k) (only step at x s k) (only-then step at x s k e)
+          alone (run_noted stretch step low place s k) (only step at x s k) (only-then step at x s k e)
           ∙ run-before stretch step low place s k (inl e) ∙ sym (run-before stretch step low (place + 1) s k (inl e))
-      | inl e ↦ elim (next-place k at) [
+      | inl e ↦ elim (where-stands k at) [
         | inl b ↦
-            lone (run_noted stretch step low place s k) (only step at x s k) (only-there step at x s k (λ q. absurd (omega arith)))
+            alone (run_noted stretch step low place s k) (only step at x s k) (only-there step at x s k (λ q. absurd (omega arith)))
             ∙ elim (where-is k (stretch.number + low) at) [
               | inl h ↦ run-before stretch step low place s k (inr (inl h)) ∙ sym (run-before stretch step low (place + 1) s k (inr (inl h)))
               | inr a ↦ elim a [
@@ -170,10 +156,6 @@ run-more stretch step low place s k l =
       ]
     ]
 
-assoc : {X : Type 0} (a b c : Option X) → first_of (first_of a b) c ≡ first_of a (first_of b c)
-assoc None b c = refl
-assoc (Some x) b c = refl
-
 pub noted-more : (map : Noted) (stretch : Stretch) (step low place s k : ℕ) → low ≤ place
     → noted (union map (run_noted stretch step low place)) step (stretch.number + place) (OfPoint (kept stretch step place)) s k
     ≡ union map (run_noted stretch step low (place + 1)) s k
@@ -182,11 +164,7 @@ noted-more map stretch step low place s k l =
     ∙ ap (first_of (map s k)) (run-more stretch step low place s k l)
 
 pub noted-none : (map : Noted) (stretch : Stretch) (step low s k : ℕ) → map s k ≡ union map (run_noted stretch step low low) s k
-noted-none map stretch step low s k = sym (lone (map s k) (run_noted stretch step low low s k) (none-noted stretch step low s k))
-
-same-first : (a b : Option Noting) (x : Noting) → b ≡ None → first_of a b ≡ Some x → a ≡ Some x
-same-first None b x n e = sym n ∙ e
-same-first (Some y) b x n e = e
+noted-none map stretch step low s k = sym (alone (map s k) (run_noted stretch step low low s k) (none-noted stretch step low s k))
 
 -- what agrees with a run does so place by place
 pub run-agrees : (map : Noted) (stretch : Stretch) (step low place high : ℕ) → low ≤ place → place < high → Agree map (run_noted stretch step low high)
@@ -194,9 +172,9 @@ pub run-agrees : (map : Noted) (stretch : Stretch) (step low place high : ℕ) �
 run-agrees map stretch step low place high l h g = λ s k a b p q.
     let x = OfPoint (kept stretch step place) in
     let at = stretch.number + place in
-    elim (is-now s step) [
+    elim (cases_eq s step) [
       | inr e ↦ let n = only-then step at x s k e in cc
-      | inl e ↦ elim (is-now k at) [
+      | inl e ↦ elim (cases_eq k at) [
         | inr f ↦ let n = only-there step at x s k f in cc
         | inl f ↦
             let m = same-first (map s k) (run_noted stretch step low place s k) a (run-before stretch step low place s k (inr (inr (omega arith)))) p in

@@ -1,14 +1,14 @@
 -- A run of spots that a law makes, written over those from a place on.
-use Rattle.std.proofs.Common.{◌≡◌, ℕ, ◌+◌, ◌-◌, ◌<◌, ◌≤◌, ◌⊎◌, inl, inr, ◌∙◌, ap, sym, subst, List, ◌++◌, length, map, get_or, take, drop, refl, Bool, true, false, arith}
+use Rattle.std.proofs.Common.{◌≡◌, ℕ, ◌+◌, ◌-◌, ◌<◌, ◌≤◌, inl, inr, ◌∙◌, ap, sym, subst, List, ◌++◌, length, map, get_or, take, drop, Bool, true, false, arith}
 use Rattle.std.proofs.lemmas.List.{drop-map, get_or-append_right, get_or-drop, get_or-take, get_or_append_left, length-append, length-drop, length-map, length-take-le, map-append, take-map}
 use borrow.Rule.Slice.PartMut.{post_of, put_mid, same_len_mid}
-use Rattle.case_model.specs.declared.points.Point.{Point}
 use Rattle.case_model.specs.declared.points.Point.TheVariants.{Bad}
 use Rattle.case_model.specs.declared.spots.Spot.{Spot}
 use Rattle.case_model.specs.Meaning.{Meaning}
 use Rattle.case_model.specs.Runs.{IsCalmRun, calm_at, calm_point}
 use Rattle.fronts.specs.Bands.{AreMade, AreRaised}
 use Rattle.fronts.specs.declared.stencil.Places.{Places}
+use Rattle.std.proofs.lemmas.Bool.{cases_lt}
 
 -- ---- an item of a list of which a part was written over
 
@@ -49,9 +49,6 @@ part-at spots from count j h =
 
 -- ---- a run
 
-over : (x n : ℕ) → (x < n) ⊎ (n ≤ x)
-over x n = grind arith
-
 pub run-made : (law : Meaning) (places : Places) (a n done : ℕ) (earlier old run : List Spot)
     → 0 < places.low → places.low < places.high → places.high < length earlier → length old ≡ length earlier
     → a ≡ places.high + 1 - (places.low - 1) → n ≡ places.high - places.low → done ≤ n
@@ -79,7 +76,7 @@ run-made law places a n done earlier old run s l b k ae ne m r =
           (part-at earlier (low - 1) a (x - low + 2) (omega arith) ∙ ap (calm_at earlier) (omega arith));
       outside = λ x d. elim d [
         | inl u ↦ at x ∙ below low n (map calm_point old) (map calm_point run) x Bad u (omega arith)
-        | inr u ↦ elim (over x (low + n)) [
+        | inr u ↦ elim (cases_lt x (low + n)) [
           | inl v ↦
               at x ∙ within low n (map calm_point old) (map calm_point run) x Bad (omega arith) (omega arith) (omega arith)
               ∙ r.rest (x - low) (omega arith) ∙ part-at old low n (x - low) (omega arith) ∙ ap (calm_at old) (omega arith)

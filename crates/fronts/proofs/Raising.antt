@@ -1,7 +1,7 @@
 -- What a stretch holds after a step of a band, and after a point is put.
 use Rattle.std.proofs.Common.{◌≡◌, ℕ, ◌+◌, ◌-◌, ◌<◌, ◌≤◌, ◌⊎◌, inl, inr, ◌∙◌, ap, sym, subst, arith}
 use Rattle.std.specs.Prelude.{◌≢◌, ◌%◌, Bool, true, false}
-use Rattle.std.proofs.lemmas.Bool.{eq-eqb, ne_eqb}
+use Rattle.std.proofs.lemmas.Bool.{eq-eqb, ne_eqb, cases_eq}
 use Rattle.case_model.specs.declared.points.Point.{Point}
 use Rattle.case_model.specs.Meaning.{Meaning}
 use Rattle.case_model.specs.Mesh.{reaches}
@@ -83,15 +83,6 @@ raised-on law step distance low high old new since front later on st ra h = reco
       ];
 }
 
-same-or : (x y : ℕ) → (x ≡ y) ⊎ (x ≢ y)
-same-or x y = elim (below x y) [
-  | inl a ↦ inr (λ e. omega arith)
-  | inr a ↦ elim a [ inl e ↦ inl e | inr b ↦ inr (λ e. omega arith) ]
-]
-  where
-    below : (x y : ℕ) → (x < y) ⊎ ((x ≡ y) ⊎ (y < x))
-    below x y = grind arith
-
 which-put : (t step : ℕ) → t ≤ step → step ≤ t + 1 → (t ≡ step) ⊎ (t + 1 ≡ step)
 which-put t step h g = grind arith
 
@@ -118,7 +109,7 @@ put-on law step place point old new since front sooner later pu ps e h = record 
       let size : count_of new ≡ count_of old = pu.same.count_is in
       let b' : x < count_of old = omega arith in
       let m = same-spot law old new t x pu.same in
-      elim (same-or x place) [
+      elim (cases_eq x place) [
         | inl k ↦
             let f' : t ≤ step = subst (λ z. t ≤ z) (ap later k ∙ ps.here) f in
             let n' : step ≤ t + 1 = subst (λ z. z ≤ t + 1) (ap later k ∙ ps.here) n in

@@ -1,15 +1,15 @@
 -- Places of a stretch that are raised by one step.
-use Rattle.std.proofs.Common.{◌≡◌, ◌≢◌, ◌∙◌, ℕ, ◌+◌, ◌-◌, ◌%◌, ◌<◌, ◌≤◌, ◌⊎◌, inl, inr, refl, sym, ap, subst, List, length, Bool, true, false, arith}
-use Rattle.std.specs.Prelude.{not, ◌==◌}
-use Rattle.std.proofs.lemmas.Bool.{eq-eqb, ne_eqb}
+use Rattle.std.proofs.Common.{◌≡◌, ◌∙◌, ℕ, ◌+◌, ◌-◌, ◌%◌, ◌<◌, ◌≤◌, ◌⊎◌, inl, inr, refl, sym, ap, subst, List, Bool, true, false, arith}
+use Rattle.std.specs.Prelude.{not}
+use Rattle.std.proofs.lemmas.Bool.{eq-eqb, ne_eqb, cases_lt}
 use Rattle.case_model.specs.declared.points.Point.{Point}
 use Rattle.case_model.specs.declared.spots.Spot.{Spot}
 use Rattle.case_model.specs.Meaning.{Meaning}
 use Rattle.case_model.specs.Runs.{calm_at}
-use Rattle.fronts.specs.Bands.{AreRaised, IsOnMesh, IsStepped, later_point}
+use Rattle.fronts.specs.Bands.{AreRaised, IsStepped, later_point}
 use Rattle.fronts.specs.declared.stencil.Places.{Places}
 use Rattle.fronts.specs.declared.stretches.Stretch.{Stretch}
-use Rattle.fronts.specs.Stretches.{AreSameKept, AreSamePlaces, IsPutIn, count_of, is_even, kept, kept_in, point_in, slot}
+use Rattle.fronts.specs.Stretches.{AreSameKept, AreSamePlaces, IsPutIn, count_of, is_even, kept, kept_in, slot}
 use Rattle.fronts.proofs.Keeping.{kept-calm, kept-past, kept-same, places-then}
 
 pub next-parity : (step : ℕ) → is_even (step + 1) ≡ not (is_even step)
@@ -30,9 +30,6 @@ same-or-not false false = inl refl
 not-same : (b : Bool) → b ≡ not b → ⊥
 not-same true e = cc
 not-same false e = cc
-
-over : (x n : ℕ) → (x < n) ⊎ (n ≤ x)
-over x n = grind arith
 
 later-same : (law : Meaning) (old mid : Stretch) (step x : ℕ) → AreSamePlaces old mid → ((y : ℕ) → kept mid step y ≡ kept old step y) → later_point law mid step x ≡ later_point law old step x
 later-same law old mid step x s h =
@@ -57,11 +54,11 @@ stepped-more law step low at high old mid new l h p q =
     let n : count_of mid ≡ count_of old = p.same.count_is in
     record {
       same = places-then old mid new p.same q.same;
-      inner = λ x b u v. elim (over x at) [
+      inner = λ x b u v. elim (cases_lt x at) [
         | inl a ↦ p.inner x b u a
         | inr a ↦ let i = q.inner x (omega arith) a v in let j : x + 1 < count_of mid = i.1 in (i.0, omega arith)
       ];
-      inside = λ t x b u v e. elim (over x at) [
+      inside = λ t x b u v e. elim (cases_lt x at) [
         | inl a ↦ q.outside t x (omega arith) (inl a) ∙ p.inside t x b u a e
         | inr a ↦ q.inside t x (omega arith) a v e ∙ later-same law old mid step x p.same (λ y. p.before step y refl)
       ];
@@ -125,7 +122,7 @@ stepped-calm law step low high done old new places spots more co cn s se ne pe f
             ∙ r.outside x (subst (λ c. x < c) (sym ce) b) (subst (λ c. (x < c) ⊎ (c + done ≤ x)) (sym le) d)
             ∙ sym (was (not even) x b) ∙ ap (λ c. kept_in old c x) (sym e)
       ];
-      before = λ t x e. elim (over x (count_of old)) [
+      before = λ t x e. elim (cases_lt x (count_of old)) [
         | inl b ↦ ap (λ c. kept_in new c x) e ∙ is even x b ∙ r.before x (subst (λ c. x < c) (sym ce) b) ∙ sym (was even x b) ∙ ap (λ c. kept_in old c x) (sym e)
         | inr b ↦ kept-past new (is_even t) x (omega arith) ∙ sym (kept-past old (is_even t) x b)
       ];
@@ -142,7 +139,7 @@ stepped-empty law step low high old new l p = record {
   same = p.same;
   inner = λ x b u v. absurd (omega arith);
   inside = λ t x b u v e. absurd (omega arith);
-  outside = λ t x b d. elim (over x low) [ inl a ↦ p.outside t x b (inl a) | inr a ↦ p.outside t x b (inr a) ];
+  outside = λ t x b d. elim (cases_lt x low) [ inl a ↦ p.outside t x b (inl a) | inr a ↦ p.outside t x b (inr a) ];
   before = p.before;
 }
 

@@ -1,12 +1,12 @@
 -- How the readers that histories deal find their places.
-use Rattle.std.specs.Prelude.{◌≡◌, ◌≢◌, ℕ, ◌+◌, ◌<◌, ◌≤◌, ◌⊎◌, List, [], ◌∷◌, ◌++◌, length, slice_index_or}
+use Rattle.std.specs.Prelude.{◌≡◌, ◌≢◌, ℕ, ◌+◌, ◌<◌, ◌⊎◌, List, [], ◌∷◌, ◌++◌, length, slice_index_or}
 use Rattle.std.specs.Prelude.{All, map, Option, Some, None, IsSome}
 use Rattle.std.specs.List.{range_with_len}
 use Rattle.std.proofs.Common.{sym, ◌∙◌, ap, subst, arith, inl, inr, refl, get_or}
 use Rattle.std.proofs.lemmas.List.{get_or-map, length-map}
 use Rattle.std.proofs.lemmas.List.FromFn.{get_or-range_with_len}
 use Rattle.case_model.specs.Meaning.{Meaning}
-use Rattle.endhistory.specs.Seats.{IsNewReader, IsNewWriter, number_of}
+use Rattle.endhistory.specs.Seats.{IsNewReader, number_of}
 use Rattle.endhistory.specs.declared.history.History.{History}
 use Rattle.endhistory.specs.declared.history.Reader.{Reader}
 use Rattle.endhistory.specs.declared.history.Writer.{Writer}
@@ -18,9 +18,7 @@ use Rattle.histories.specs.Opened.{AreOpened, AreReadersOf, IsFreshReader, IsFre
 use Rattle.histories.specs.declared.ends.Ends.{Ends}
 use Rattle.histories.proofs.Pushed.{both-more, each-more, length-more}
 use Rattle.std.specs.Global.{Vec}
-
-same-or-not : (y x : ℕ) → (y ≡ x) ⊎ (y ≢ x)
-same-or-not y x = grind arith
+use Rattle.std.proofs.lemmas.Bool.{cases_eq}
 
 pub some-item : {X : Type 0} (xs : List X) → 0 < length xs → X
 some-item [] some = absurd (omega arith)
@@ -173,7 +171,7 @@ module _ (law : Meaning) (layout : Layout) (histories : List History) (x j : ℕ
   -- all others are still there
   not-taken : (y c : ℕ) → IsLater x (j + 1) (side_of layout law.mesh y c) (back_of layout law.mesh y c)
       → (y ≢ side_of layout law.mesh x j) ⊎ (c ≢ back_of layout law.mesh x j)
-  not-taken y c later = elim (same-or-not y (side_of layout law.mesh x j)) [
+  not-taken y c later = elim (cases_eq y (side_of layout law.mesh x j)) [
     | inl e ↦ inr (λ f.
         let s : side_of layout law.mesh y c ≡ x =
         ap (λ (k : ℕ). side_of layout law.mesh k c) e

@@ -1,11 +1,13 @@
 -- How readers find their places while histories are opened: the history of strand y gives its
 -- readers by number, and reader c of it belongs to the strand at side c of y.
-use Rattle.std.specs.Prelude.{◌≡◌, ◌≢◌, ℕ, ◌<◌, ◌≤◌, ◌⊎◌, List, length, slice_index_or, Option, Some}
+use Rattle.std.specs.Prelude.{◌≡◌, ◌≢◌, ℕ, ◌<◌, ◌≤◌, ◌⊎◌, List, length, slice_index_or}
+use Rattle.std.specs.Prelude.{Option, Some}
 use Rattle.std.specs.Prelude.{None}
 use Rattle.case_model.specs.Meaning.{Meaning}
 use Rattle.case_model.specs.declared.meshes.Mesh.{Mesh}
 use Rattle.endhistory.specs.declared.history.History.{History}
 use Rattle.endhistory.specs.declared.history.Reader.{Reader}
+use Rattle.endhistory.specs.declared.history.TheConstants.{MOST_SLOTS}
 use Rattle.endhistory.specs.declared.history.Writer.{Writer}
 use Rattle.histories.specs.Blocks.{sizes_at}
 use Rattle.histories.specs.Opened.{AreReadersOf, IsFreshReader, IsFreshWriter}
@@ -19,7 +21,7 @@ pub record CanOpen (law : Meaning) (layout : Layout) (mesh : Mesh) (slots : ℕ)
   pub mesh_is : mesh ≡ law.mesh
   pub laid_out : IsLaidOut layout mesh
   pub some : 1 ≤ slots
-  pub few : slots ≤ 8
+  pub few : slots ≤ MOST_SLOTS
 
 -- reader c of the history of strand y, which hasn't found its place yet
 abbrev pub IsDealt : Meaning → Layout → ℕ → ℕ → History → Option Reader → Type 0

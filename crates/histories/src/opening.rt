@@ -3,6 +3,7 @@
 ghost use Rattle.std.specs.Prelude.{◌≡◌, ◌+◌, ◌<◌, ◌≤◌, length, map, IfOk, OnOk, IsSome, Some};
 ghost use Rattle.std.specs.Prelude.{slice_index_or, Option};
 ghost use Rattle.case_model.specs.Meaning.{Meaning};
+ghost use Rattle.case_model.specs.declared.meshes.TheConstants.{MOST_ENDS};
 ghost use Rattle.endhistory.specs.Blocks.{IsSizes};
 ghost use Rattle.histories.specs.Blocks.{sizes_at};
 ghost use Rattle.endhistory.specs.declared.history.Reader.{Reader as ReaderSeen};
@@ -12,12 +13,13 @@ ghost use Rattle.std.specs.Global.{Vec as VecSeen};
 ghost use Rattle.histories.specs.Opened.{AreOpened, AreReadersOf, IsFreshWriter};
 ghost use Rattle.regions.specs.LaidOut.{IsLaidOut};
 ghost use Rattle.regions.specs.Sides.{sides_of};
+ghost use Rattle.regions.specs.declared.shapes.TheConstants.{WIDEST_WINDOW};
 
 use crate::blocks::BlockOf;
 use crate::ends::Ends;
 use crate::laws::strands_have_blocks;
 use case_model::{Law, Mesh};
-use endhistory::{History, Reader, Writer};
+use endhistory::{History, MOST_SLOTS, Reader, Writer};
 use regionrun::layouts_are_lawful;
 use regions::Layout;
 use std::alloc::{AllocError, Global};
@@ -35,7 +37,7 @@ pub fn open_histories<L: Law>(
     requires mesh { mesh.now ≡ (L.meaning law.now).mesh }
     requires laid_out { IsLaidOut layout.now mesh.now }
     requires some { 1 ≤ slots }
-    requires few { slots ≤ 8 }
+    requires few { slots ≤ MOST_SLOTS }
     ensures { IfOk result (AreOpened (L.meaning law.now) layout.now slots) }
 {
     let opening = Opening {
@@ -145,9 +147,9 @@ fn can_hold<L: Law>(opening: &Opening<L>, strand: u32)
     requires there { strand < length opening.now.layout.now.shapes }
     ensures sizes { IsSizes (sizes_at opening.now.layout.now opening.now.mesh.now
         opening.now.slots strand) }
-    ensures window { opening.now.layout.now.window ≤ 256 }
+    ensures window { opening.now.layout.now.window ≤ WIDEST_WINDOW }
     ensures windows { opening.now.layout.now.windows ≤ 100_000_000 }
-    ensures sides { sides_of opening.now.layout.now opening.now.mesh.now strand ≤ 16 }
+    ensures sides { sides_of opening.now.layout.now opening.now.mesh.now strand ≤ MOST_ENDS }
 {
     let _ = opening;
     let _ = strand;

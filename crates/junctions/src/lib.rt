@@ -10,4 +10,4 @@ mod sums;
 
 pub use laws::{junction, reservoir};
 pub use levels::{bad_state, filled, state_at, state_with_flows};
-pub use sums::{MOST_ENDS, weighted_sums, write_inflows};
+pub use sums::{weighted_sums, write_inflows};

@@ -26,9 +26,6 @@ ghost use Rattle.junctions.specs.Levels.{inflows};
 use case_model::Arrival;
 use charline::driven_flow;
 
-/// The most pipe ends at a node, in version 2 of the case text.
-pub const MOST_ENDS: usize = 16;
-
 /// The sums over a node's arrivals of characteristic value times weight and of the weights, where a
 /// weight is the inverse of an impedance in 1e-16 m2/s.
 pub fn weighted_sums(arrivals: &[Arrival]) -> (i128, i128)

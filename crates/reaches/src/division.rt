@@ -7,6 +7,7 @@ ghost use Rattle.case_model.specs.Bounds.{LeastOrNone};
 ghost use Rattle.case_model.specs.Division.{AreEnds, mesh_of, place_base};
 ghost use Rattle.case_model.specs.Refusals.{part_rules, passes, is_too_large as is_too_large_of};
 ghost use Rattle.case_model.specs.Refusals.{sample_count as sample_count_of};
+ghost use Rattle.case_model.specs.declared.cases.TheConstants.{MOST_PROBES};
 ghost use Rattle.reaches.specs.Decided.{AreDecided};
 
 use crate::ends::all_ends;
@@ -92,7 +93,7 @@ fn sample_count(case: &Case) -> u64
 }
 
 fn samples(probes: u64, each: u64) -> u64
-    requires probes_in { probes ≤ 256 }
+    requires probes_in { probes ≤ MOST_PROBES }
     requires each_in { each ≤ 100_000_001 }
     ensures { result ≡ probes * each }
 {

@@ -7,9 +7,10 @@ use Rattle.regions.specs.declared.shapes.Layout.{Layout}
 use Rattle.regions.specs.declared.shapes.Shape.{Shape}
 use Rattle.regions.specs.declared.shapes.Shape.TheVariants.{OfNode, OfSeam, OfSection}
 use Rattle.regions.specs.Regions.{InStation, InStationBy, InStations}
-use Rattle.regions.specs.Sides.{shape_at, is_section, sides_in, side_in, sides_of, side_of, back_of}
+use Rattle.regions.specs.Sides.{shape_at, is_section, side_in, sides_of, side_of, back_of}
 use Rattle.regions.specs.Touching.{IsStanding, station_pipe, station_place}
 use Rattle.regionrun.specs.Lawful.{IsLawful}
+use Rattle.regions.proofs.Joining.{sides-from}
 
 -- strand x is a station
 pub record IsStation (layout : Layout) (x : ℕ) : Type 0 where
@@ -94,11 +95,6 @@ pub side-from : (layout : Layout) (mesh : Mesh) (y j : ℕ) (s : Shape) → shap
     → side_of layout mesh y j ≡ side_in mesh layout.window j s
 unfolding side_of
 side-from layout mesh y j s e = ap (side_in mesh layout.window j) e
-
-pub sides-from : (layout : Layout) (mesh : Mesh) (y : ℕ) (s : Shape) → shape_at layout y ≡ s
-    → sides_of layout mesh y ≡ sides_in mesh s
-unfolding sides_of
-sides-from layout mesh y s e = ap (sides_in mesh) e
 
 -- ---- the triangles of a station
 

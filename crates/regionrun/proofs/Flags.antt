@@ -2,10 +2,9 @@
 use Rattle.std.proofs.Common.{◌≡◌, ℕ, ◌<◌, ◌==◌, inl, inr, Bool, true, false, length, List, [], ◌∷◌}
 use Rattle.std.proofs.Common.{map, ap, sym, ◌∙◌, arith, eq-eqb}
 use Rattle.std.specs.Prelude.{◌||◌, slice_index_or}
-use Rattle.std.proofs.lemmas.Bool.{ne_eqb}
+use Rattle.std.proofs.lemmas.Bool.{ne_eqb, cases_eq}
 use Rattle.std.proofs.lemmas.List.{get_or-map}
 use Rattle.std.proofs.Math.Bool.{or-false, or-true}
-use Rattle.regionrun.proofs.Owning.{same-or-not}
 use Rattle.strands.specs.Hubs.{EachSpoke, IsSideLoaded, spokes_of}
 use Rattle.strands.specs.declared.hubs.Hub.{Hub}
 use Rattle.strands.specs.declared.spokes.Spoke.{Spoke}
@@ -42,7 +41,7 @@ flag-taken side old new taken i h =
     let l : i < length (spokes_of new) = let e = taken.same.each in omega arith in
     let was = flag-is (spokes_of old) i d h in
     let is = flag-is (spokes_of new) i d l in
-    elim (same-or-not i side) [
+    elim (cases_eq i side) [
       | inl e ↦
           let on : (slice_index_or (spokes_of new) i d).loaded ≡ true =
           ap (λ (z : ℕ). (slice_index_or (spokes_of new) z d).loaded) e ∙ taken.here d in

@@ -2,7 +2,7 @@
 use Rattle.std.proofs.Common.{◌≡◌, ℕ, ◌+◌, ◌*◌, ◌<◌, ◌≤◌, inl, inr, Bool, ◌==◌, true, false, length}
 use Rattle.std.proofs.Common.{refl, arith, eq-eqb}
 use Rattle.std.specs.Prelude.{◌&&◌, ◌||◌, max, nat_lt}
-use Rattle.std.proofs.lemmas.Bool.{cases_lt, le-ltb, lt-ltb, ne_eqb}
+use Rattle.std.proofs.lemmas.Bool.{cases_lt, le-ltb, lt-ltb, ne_eqb, cases_eq}
 use Rattle.std.proofs.Math.Bool.{and-false, or-true}
 use Rattle.case_model.specs.declared.meshes.Mesh.{Mesh}
 use Rattle.case_model.specs.PlaceNumbers.{place_at}
@@ -17,7 +17,7 @@ use Rattle.schedule.specs.Nets.{regions_of}
 use Rattle.strands.specs.Marks.{or_marked}
 use Rattle.regionrun.specs.Lawful.{IsLawful}
 use Rattle.regionrun.specs.Owned.{owned, owned_below, owner_at, spot_of}
-use Rattle.regionrun.proofs.Owning.{has-spot, owned-out, region-is, same-or-not}
+use Rattle.regionrun.proofs.Owning.{has-spot, owned-out, region-is}
 
 -- ---- how many regions a strand has
 
@@ -38,7 +38,7 @@ region-few layout x m t spot h = few-by layout x m t (shape_at layout x) spot h
 
 one-more : (y n : ℕ) (z : Bool) → (y ≡ n → z ≡ true)
     → nat_lt y (n + 1) ≡ (nat_lt y n || ((y == n) && z))
-one-more y n z h = elim (same-or-not y n) [
+one-more y n z h = elim (cases_eq y n) [
   | inl e ↦ rw (lt-ltb y (n + 1) (omega arith), eq-eqb y n e, h e, or-true) refl
   | inr e ↦ elim (cases_lt y n) [
     | inl l ↦ rw (lt-ltb y (n + 1) (omega arith), lt-ltb y n l) refl

@@ -3,7 +3,7 @@ use Rattle.std.specs.Prelude.{◌≡◌, ℕ, ◌+◌, ◌-◌, ◌<◌, ◌≤�
 use Rattle.std.specs.Prelude.{length, slice_index_or, slice_set, take, drop, refl, ◌≢◌}
 use Rattle.std.proofs.Common.{sym, ◌∙◌, ap, subst, arith, inl, inr, get_or-set_other}
 use Rattle.std.proofs.Common.{get_or-set_same, length-set}
-use Rattle.std.proofs.lemmas.Bool.{cases_lt}
+use Rattle.std.proofs.lemmas.Bool.{cases_lt, cases_eq}
 use Rattle.std.proofs.lemmas.List.{get_or_default, get_or-drop, get_or-take, get_or_append_left, get_or-append_right}
 use Rattle.std.proofs.lemmas.List.{length-drop, length-take-le, take-append-le, take_all}
 use Rattle.case_model.specs.Meaning.{Meaning}
@@ -132,14 +132,11 @@ strands-same strands = record {
 
 -- ---- one strand after another
 
-same-or-not : (y x : ℕ) → (y ≡ x) ⊎ (y ≢ x)
-same-or-not y x = grind arith
-
 -- an item that is good is put behind those that are
 pub done-more : {X : Type 0} (P : X → Type 0) (x : ℕ) (xs : List X) (new : X) → x < length xs
     → ((i : ℕ) (d : X) → i < x → P (slice_index_or xs i d)) → P new
     → (i : ℕ) (d : X) → i < x + 1 → P (slice_index_or (slice_set xs x new) i d)
-done-more P x xs new inside done good i d below = elim (same-or-not i x) [
+done-more P x xs new inside done good i d below = elim (cases_eq i x) [
   | inl e ↦
       subst (λ k. P (slice_index_or (slice_set xs x new) k d)) (sym e)
       (subst P (sym (get_or-set_same xs x new d inside)) good)
@@ -179,7 +176,7 @@ pub strands-set : {S : Type 0} (strands : List (Strand S)) (x : ℕ) (d0 new : S
     → IsSameStrand (slice_index_or strands x d0).frontier new.frontier
     → x < length strands → AreSameStrands strands (slice_set strands x new)
 strands-set strands x d0 new same inside = record {
-  each = λ y d below. set-same strands x d0 new same inside y d (same-or-not y x);
+  each = λ y d below. set-same strands x d0 new same inside y d (cases_eq y x);
 }
 
 -- ---- both halves together

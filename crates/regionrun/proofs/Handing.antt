@@ -21,6 +21,7 @@ use Rattle.strands.specs.Stations.{half}
 use Rattle.strands.specs.Blocks.{HasPoints, from_end, section_side, station_side, station_step}
 use Rattle.regionrun.specs.Lawful.{IsLawful}
 use Rattle.regionrun.specs.Handed.{HasSection, HasStation, ArePointsFor, block_point, point_on}
+use Rattle.regions.proofs.Joining.{zero-or-one}
 
 -- ---- points of blocks by the kind of their strand
 
@@ -42,9 +43,6 @@ unfolding block_point block_spot block_step block_point_of
 station-block law layout y c b j e = rw e refl
 
 -- ---- a section
-
-zero-or-one : (c : ℕ) → c < 2 → (c ≡ 0) ⊎ (c ≡ 1)
-zero-or-one c h = grind arith
 
 -- the place of a section at a distance from its left or its right end
 section-spot : (c d p place n l r : ℕ) → c < 2 → d ≤ n

@@ -33,6 +33,7 @@ use Rattle.regionrun.specs.Right.{IsRight, IsRightAt, region_count, strand_spans
 use Rattle.regionrun.proofs.Gathered.{owned_below-all, owned_below-more, owned_below-none}
 use Rattle.regionrun.proofs.Reached.{owned-reached}
 use Rattle.regionrun.proofs.Spanned.{node-within, seam-within, section-within}
+use Rattle.fronts.proofs.Lining.{value-of}
 
 -- ---- where a strand's places lie, its fold has spans
 
@@ -61,10 +62,6 @@ union-marked : (law : Meaning) (one other : Marks) (s k : ℕ)
 unfolding marked
 union-marked law one other s k =
     either-has (one s k) (other s k) (noting_at (row law s) (place_at law.mesh k))
-
-value-of : (a : Bool) (z x : Noting) → cond a (Some z) None ≡ Some x → x ≡ z
-value-of true z x e = cc
-value-of false z x e = cc
 
 agree-marked : (law : Meaning) (one other : Marks) → Agree (marked law one) (marked law other)
 unfolding marked
@@ -194,14 +191,6 @@ one-done law layout x strand old new maps lawful merge part same done few stands
     stands))
 
 -- ---- folds of the same spans, probes and steps
-
-pub same-then : (a b c : Fold) → IsSameFold a b → IsSameFold b c → IsSameFold a c
-same-then a b c one more = record {
-  spans_are = more.spans_are ∙ one.spans_are;
-  probes_are = more.probes_are ∙ one.probes_are;
-  steps_are = more.steps_are ∙ one.steps_are;
-  every_is = more.every_is ∙ one.every_is;
-}
 
 pub same-part : (a b part : Fold) → IsSameFold a b → IsPart a part → IsPart b part
 same-part a b part same p = record {

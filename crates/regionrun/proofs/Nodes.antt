@@ -23,11 +23,13 @@ use Rattle.strands.specs.Marks.{Marks, is_between, or_marked}
 use Rattle.strands.specs.Stations.{half}
 use Rattle.regionrun.specs.Lawful.{IsLawful}
 use Rattle.regionrun.specs.Owned.{AreOfRegion, end_place, owned, spot_of}
-use Rattle.regionrun.proofs.Beside.{IsBeside, IsStation, fan-stations, sides-from, stations-fan}
+use Rattle.regionrun.proofs.Beside.{IsBeside, IsStation, fan-stations, stations-fan}
 use Rattle.regionrun.proofs.Owning.{owned-next}
 use Rattle.regionrun.proofs.Seams.{fan-in, fan-only}
-use Rattle.regionrun.proofs.Spots.{between-parts, between-true, node-below, node-is, place-below}
+use Rattle.regionrun.proofs.Spots.{between-parts, node-below, node-is, place-below}
 use Rattle.regionrun.proofs.Spots.{place-is}
+use Rattle.regions.proofs.Joining.{sides-from}
+use Rattle.strands.proofs.Marking.{between-in}
 
 -- a stretch from a pipe's end inward, with the end at its place `at`
 pub record IsOverSpoke (mesh : Mesh) (w : ℕ) (e : End) (at : ℕ) (stretch : Stretch) : Type 0 where
@@ -159,7 +161,7 @@ inside layout mesh x m s k node spoke at marks (OnPipe p i) lawful over of on e 
     let d : from_place (end_place mesh end) i ≡ from_place (at c) (k - (spoke c).number) =
     sp.away ∙ ap (from_place (at c)) y in
     of.spoke_in c s k index
-    (between-true (spoke c) (λ u. fan (m * w) w 0 (from_place (at c) u))
+    (between-in (spoke c) (λ u. fan (m * w) w 0 (from_place (at c) u))
     (λ u. fan (m * w) w w (from_place (at c) u)) s k (omega arith) (omega arith)
     (subst (λ (u : ℕ). fan (m * w) w 0 u < s) d b.2)
     (subst (λ (u : ℕ). s ≤ fan (m * w) w w u) d b.3))

@@ -1,8 +1,8 @@
 -- What a strand owns grows by the marks of one region after another.
-use Rattle.std.proofs.Common.{◌≡◌, ◌≢◌, ℕ, ◌+◌, ◌*◌, ◌<◌, ◌≤◌, ◌⊎◌, inl, inr, Bool, true, false}
+use Rattle.std.proofs.Common.{◌≡◌, ℕ, ◌+◌, ◌*◌, ◌<◌, ◌≤◌, inl, inr, Bool, true, false}
 use Rattle.std.proofs.Common.{◌==◌, refl, ap, sym, subst, ◌∙◌, arith, eq-eqb, length}
 use Rattle.std.specs.Prelude.{◌||◌, ◌&&◌, nat_lt, max}
-use Rattle.std.proofs.lemmas.Bool.{cases_lt, false_from_ne_true, lt-ltb, le-ltb, ne_eqb}
+use Rattle.std.proofs.lemmas.Bool.{cases_lt, false_from_ne_true, lt-ltb, le-ltb, ne_eqb, cases_eq}
 use Rattle.std.proofs.Math.Bool.{or-false, or-true, and-true}
 use Rattle.case_model.specs.declared.cases.ProbeAt.{ProbeAt}
 use Rattle.case_model.specs.declared.cases.ProbeAt.TheVariants.{OnPipe, OnNode}
@@ -21,25 +21,16 @@ same-bools true b f g = sym (f refl)
 same-bools false true f g = g refl
 same-bools false false f g = refl
 
-pub same-or-not : (a b : ℕ) → (a ≡ b) ⊎ (a ≢ b)
-same-or-not a b = elim (cases_lt a b) [
-  | inl l ↦ inr (λ e. absurd (omega arith))
-  | inr l ↦ elim (cases_lt b a) [
-    | inl k ↦ inr (λ e. absurd (omega arith))
-    | inr k ↦ inl (omega arith)
-  ]
-]
-
 -- one more region
 tell : (y r x m : ℕ) (z : Bool) → (z ≡ true → (y ≡ x) × (r ≡ m)) → (y ≡ x → r ≡ m → z ≡ true)
     → ((y == x) && nat_lt r (m + 1)) ≡ (((y == x) && nat_lt r m) || z)
 tell y r x m true f g = let h = f refl in
     rw (eq-eqb y x h.0, lt-ltb r (m + 1) (let e = h.1 in omega arith), or-true) refl
-tell y r x m false f g = elim (same-or-not y x) [
+tell y r x m false f g = elim (cases_eq y x) [
   | inr n ↦ rw (ne_eqb y x n) refl
   | inl e ↦ elim (cases_lt r m) [
     | inl l ↦ rw (eq-eqb y x e, lt-ltb r (m + 1) (omega arith), lt-ltb r m l) refl
-    | inr l ↦ elim (same-or-not r m) [
+    | inr l ↦ elim (cases_eq r m) [
       | inl a ↦ let z = g e a in cc
       | inr a ↦ rw (eq-eqb y x e, le-ltb r (m + 1) (omega arith), le-ltb r m l) refl
     ]

@@ -16,10 +16,11 @@ use Rattle.regions.specs.Sides.{end_at, shape_at}
 use Rattle.regions.specs.Touching.{station_pipe, station_place}
 use Rattle.regionrun.specs.Lawful.{IsLawful}
 use Rattle.regionrun.specs.Owned.{IsReached, end_place, owned, spot_of}
-use Rattle.regionrun.proofs.Beside.{sides-from, stations-fan}
+use Rattle.regionrun.proofs.Beside.{stations-fan}
 use Rattle.regionrun.proofs.Nodes.{node-station}
 use Rattle.regionrun.proofs.Owning.{owned-later, owned-out, owned-start, region-is}
 use Rattle.regionrun.proofs.Seams.{seam-station}
+use Rattle.regions.proofs.Joining.{sides-from}
 
 -- ---- by the owner's region
 

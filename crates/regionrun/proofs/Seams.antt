@@ -21,9 +21,11 @@ use Rattle.strands.specs.Marks.{is_between, or_marked}
 use Rattle.strands.specs.Stations.{half, seam_front}
 use Rattle.regionrun.specs.Lawful.{IsLawful}
 use Rattle.regionrun.specs.Owned.{AreOfRegion, owned, spot_of}
-use Rattle.regionrun.proofs.Beside.{IsBeside, IsStation, fan-stations, sides-from, stations-fan}
+use Rattle.regionrun.proofs.Beside.{IsBeside, IsStation, fan-stations, stations-fan}
 use Rattle.regionrun.proofs.Owning.{owned-next}
-use Rattle.regionrun.proofs.Spots.{between-parts, between-true, place-below, place-is}
+use Rattle.regionrun.proofs.Spots.{between-parts, place-below, place-is}
+use Rattle.regions.proofs.Joining.{sides-from}
+use Rattle.strands.proofs.Marking.{between-in}
 
 -- ---- the triangle at distance d from a station
 
@@ -118,7 +120,7 @@ inside layout mesh x m s k p q left right stretch (OnPipe o i) lawful over e r =
     (subst (λ (u : ℕ). InStation w m (from_place u i) s) at f.at) in
     let near : from_place q i ≤ half w = b.0 in
     let d : from_place q i ≡ from_place (half w) (k - stretch.number) = omega arith in
-    between-true stretch (seam_front w (m * w) 0) (seam_front w (m * w) w) s k (omega arith)
+    between-in stretch (seam_front w (m * w) 0) (seam_front w (m * w) w) s k (omega arith)
     (omega arith)
     (subst (λ (u : ℕ). fan (m * w) w 0 u < s) d b.2)
     (subst (λ (u : ℕ). s ≤ fan (m * w) w w u) d b.3)

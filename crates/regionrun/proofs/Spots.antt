@@ -1,7 +1,7 @@
 -- Places of stretches as numbers and as spots.
-use Rattle.std.proofs.Common.{◌≡◌, ℕ, ◌+◌, ◌-◌, ◌<◌, ◌≤◌, true, length, refl, ap, ◌∙◌, arith}
+use Rattle.std.proofs.Common.{◌≡◌, ℕ, ◌+◌, ◌-◌, ◌<◌, ◌≤◌, true, length, ap, ◌∙◌, arith}
 use Rattle.std.specs.Prelude.{nat_le, nat_lt}
-use Rattle.std.proofs.lemmas.Bool.{and_parts, le-leb, leb-true, lt-ltb, ltb-true}
+use Rattle.std.proofs.lemmas.Bool.{and_parts, leb-true, ltb-true}
 use Rattle.case_model.specs.declared.cases.ProbeAt.TheVariants.{OnPipe, OnNode}
 use Rattle.case_model.specs.declared.meshes.Mesh.{Mesh}
 use Rattle.case_model.specs.Mesh.{base_of, reaches}
@@ -13,18 +13,6 @@ use Rattle.strands.specs.Marks.{is_between}
 use Rattle.regionrun.specs.Lawful.{IsLawful}
 
 -- ---- what lies between two fronts
-
-pub between-true : (stretch : Stretch) (front later : ℕ → ℕ) (s k : ℕ) → stretch.number ≤ k
-    → k < stretch.number + count_of stretch
-    → front (k - stretch.number) < s → s ≤ later (k - stretch.number)
-    → is_between stretch front later s k ≡ true
-between-true stretch front later s k a b c d =
-    rw (
-      le-leb stretch.number k a,
-      lt-ltb k (stretch.number + count_of stretch) b,
-      lt-ltb (front (k - stretch.number)) s c,
-      le-leb s (later (k - stretch.number)) d,
-    ) refl
 
 -- place number k is that of place y of the stretch, and the step lies between the fronts
 pub record IsBetween (stretch : Stretch) (front later : ℕ → ℕ) (s k : ℕ) : Type 0 where

@@ -23,12 +23,13 @@ use Rattle.regions.specs.Sides.{end_at, shape_at}
 use Rattle.regions.specs.Touching.{IsStanding, station_pipe, station_place}
 use Rattle.regionrun.specs.Lawful.{IsLawful}
 use Rattle.regionrun.specs.Owned.{end_number, end_place, is_own, owned, spot_of}
-use Rattle.regionrun.proofs.Beside.{fan-stations, sides-from, stations-fan}
+use Rattle.regionrun.proofs.Beside.{fan-stations, stations-fan}
 use Rattle.regionrun.proofs.Nodes.{at-most, node-beside, node-stands, node-station}
 use Rattle.regionrun.proofs.Owning.{owned-later, owned-out, owned-start, owner-is, region-is}
 use Rattle.regionrun.proofs.Owning.{same-bools}
 use Rattle.regionrun.proofs.Seams.{seam-beside, seam-stands, seam-station}
 use Rattle.regionrun.proofs.Spots.{node-below, node-is, place-below, place-is}
+use Rattle.regions.proofs.Joining.{sides-from}
 
 -- ---- what is in a region at step 1 is a place of the initial row
 

@@ -21,7 +21,8 @@ use Rattle.strands.specs.Marks.{is_between, or_marked}
 use Rattle.regionrun.specs.Lawful.{IsLawful}
 use Rattle.regionrun.specs.Owned.{AreOfRegion, owned, spot_of}
 use Rattle.regionrun.proofs.Owning.{owned-next}
-use Rattle.regionrun.proofs.Spots.{between-parts, between-true, place-below, place-is}
+use Rattle.regionrun.proofs.Spots.{between-parts, place-below, place-is}
+use Rattle.strands.proofs.Marking.{between-in}
 
 -- ---- regions of a section of n reaches
 
@@ -103,7 +104,7 @@ inside layout mesh x m s k p place n left right stretch front later (OnPipe q i)
     let count = st.count_is in
     let y : i - place ≡ k - stretch.number = omega arith in
     let b = f.inside (i - place) s (omega arith) (omega arith) r.4 in
-    between-true stretch front later s k (omega arith) (omega arith)
+    between-in stretch front later s k (omega arith) (omega arith)
     (subst (λ (z : ℕ). front z < s) y b.0) (subst (λ (z : ℕ). s ≤ later z) y b.1)
 
 pub section-marks : (layout : Layout) (mesh : Mesh) (x m p place n left right : ℕ)

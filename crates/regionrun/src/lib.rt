@@ -26,7 +26,7 @@ pub use gathering::{gather, strand_folds_are_parts};
 pub use lawful::layouts_are_lawful;
 pub use making::make_strands;
 pub use one_strand::Strand;
-pub use rounds::{Workers, run_rounds};
+pub use rounds::{MOST_WORKERS, Workers, run_rounds};
 pub use serial::run_serial;
 pub use surveys::Survey;
 pub use whole::compute;

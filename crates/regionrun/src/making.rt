@@ -4,6 +4,7 @@ ghost use Rattle.std.specs.Prelude.{◌≡◌, ◌+◌, ◌<◌, ◌≤◌, leng
 ghost use Rattle.case_model.specs.Meaning.{Meaning};
 ghost use Rattle.case_model.specs.Mesh.{IsNumbered};
 ghost use Rattle.case_model.specs.declared.meshes.TheConstants.{MOST_ENDS};
+ghost use Rattle.regions.specs.declared.shapes.TheConstants.{WIDEST_WINDOW};
 ghost use Rattle.envelope.specs.Folds.{IsSameFold, Stands};
 ghost use Rattle.envelope.specs.declared.folds.Fold.{Fold as FoldSeen};
 ghost use Rattle.regions.specs.LaidOut.{IsLaidOut};
@@ -164,7 +165,7 @@ fn standing(survey: &Survey, number: u32)
     ensures has { HasSpans survey.now.mesh.now survey.now.layout.now.window
         (shape_at survey.now.layout.now number) }
     ensures some { 1 ≤ survey.now.layout.now.window }
-    ensures few { survey.now.layout.now.window ≤ 256 }
+    ensures few { survey.now.layout.now.window ≤ WIDEST_WINDOW }
     ensures few_windows { survey.now.layout.now.windows ≤ 100_000_000 }
     ensures few_sides { sides_of survey.now.layout.now survey.now.mesh.now number ≤ MOST_ENDS }
     ensures numbered { IsNumbered survey.now.mesh.now }

@@ -20,6 +20,9 @@ use std::alloc::AllocError;
 use std::thread;
 use std::thread::Threads;
 
+/// How many threads a run may have, the calling one among them.
+pub const MOST_WORKERS: u32 = 64;
+
 /// The fewest place-steps that a thread is started for. To start and join one costs some 100
 /// microseconds, and a place-step 50 to 100 nanoseconds: so at least five parts in six of a
 /// thread's time are work.
@@ -30,7 +33,7 @@ const LEAST_WORK: u64 = 10_000;
 pub struct Workers<'a, R> {
     /// What starts them.
     pub rt: &'a R,
-    /// How many there are at most, 1 to 64.
+    /// How many there are at most, 1 to `MOST_WORKERS`.
     pub count: u32,
 }
 
@@ -46,7 +49,7 @@ pub fn run_rounds<R: Threads + AllocGlobal + Sync, L: Law, G: Gate + Sync>(
     gate: &G,
 ) -> Result<Vec<Strand<G::Stub>>, AllocError>
     requires some { 1 ≤ workers.now.count }
-    requires few { workers.now.count ≤ 64 }
+    requires few { workers.now.count ≤ MOST_WORKERS }
     requires mesh { mesh.now ≡ (L.meaning law.now).mesh }
     requires laid_out { IsLaidOut layout.now mesh.now }
     requires strands { AreAt G.Stub.strand_of G.Stub.entered_of (L.meaning law.now) layout.now none

@@ -8,7 +8,7 @@ ghost use Rattle.regionrun.specs.Surveys.{IsSurvey};
 
 use crate::gathering::gather;
 use crate::making::make_strands;
-use crate::rounds::{Workers, run_rounds};
+use crate::rounds::{MOST_WORKERS, Workers, run_rounds};
 use crate::{Gate, Survey};
 use case_model::Law;
 use envelope::Fold;
@@ -27,7 +27,7 @@ pub fn compute<R: Threads + AllocGlobal + Sync, L: Law, G: Gate + Sync>(
     into: &mut Fold,
 ) -> Result<(), AllocError>
     requires some { 1 ≤ workers.now.count }
-    requires few { workers.now.count ≤ 64 }
+    requires few { workers.now.count ≤ MOST_WORKERS }
     requires mesh { survey.now.mesh.now ≡ (L.meaning law.now).mesh }
     requires survey { IsSurvey survey.now.case.now survey.now.mesh.now survey.now.layout.now
         survey.now.probes.now }

@@ -200,11 +200,11 @@ side-of_node layout mesh w k j e o good h n i =
       }
     ] n i
 
-two : (j : ℕ) → j < 2 → (j ≡ 0) ⊎ (j ≡ 1)
-two j h = grind arith
+pub zero-or-one : (j : ℕ) → j < 2 → (j ≡ 0) ⊎ (j ≡ 1)
+zero-or-one j h = grind arith
 
 side-of_seam : (layout : Layout) (mesh : Mesh) (w p i x j : ℕ) → IsOver layout mesh w → p < length mesh.pipes → i + 1 < sections_at mesh w p → x ≡ length mesh.ends + seams_before mesh w p + i → j < 2 → HasSide layout mesh x j
-side-of_seam layout mesh w p i x j o h b e l = elim (two j l) [
+side-of_seam layout mesh w p i x j o h b e l = elim (zero-or-one j l) [
   | inl z ↦ subst (λ (m : ℕ). HasSide layout mesh x m) (sym z) (record { other = section_number mesh w p i; index = 1; joined = turned layout mesh _ 1 x 0 (seam-left layout mesh w p i x o h b e) })
   | inr z ↦ subst (λ (m : ℕ). HasSide layout mesh x m) (sym z) (record { other = section_number mesh w p (i + 1); index = 0; joined = turned layout mesh _ 0 x 1 (seam-right layout mesh w p i x o h b e) })
 ]
@@ -237,7 +237,7 @@ has-side layout mesh w x j o good wired h l = elim (strand layout mesh w x o h) 
   | IsSeam p i m b e ↦ side-of_seam layout mesh w p i x j o m b e (subst (λ (n : ℕ). j < n) (sides-from layout mesh x _ (shape-seam layout mesh w p i x o m b e)) l)
   | IsSection p i m b e ↦
       let k : j < 2 = subst (λ (n : ℕ). j < n) (ap (sides_of layout mesh) e ∙ sides-from layout mesh _ _ (shape-section layout mesh w p i o m b)) l in
-      subst (λ (z : ℕ). HasSide layout mesh z j) (sym e) (elim (two j k) [
+      subst (λ (z : ℕ). HasSide layout mesh z j) (sym e) (elim (zero-or-one j k) [
         | inl z ↦ subst (λ (n : ℕ). HasSide layout mesh (section_number mesh w p i) n) (sym z) (left-of_section layout mesh w p i o good m b)
         | inr z ↦ subst (λ (n : ℕ). HasSide layout mesh (section_number mesh w p i) n) (sym z) (right-of_section layout mesh w p i o good m b)
       ])

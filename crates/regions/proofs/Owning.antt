@@ -6,7 +6,7 @@ use Rattle.std.proofs.lemmas.Bool.{cases_lt}
 use Rattle.std.proofs.lemmas.Bool.Decides.{nat_tests}
 use Rattle.std.proofs.lemmas.List.FromFn.{get_or-range_with_len, length-range_with_len}
 use Rattle.std.proofs.lemmas.List.Sums.{fails_before_first, passes_at_first, position_or_len_is}
-use Rattle.std.proofs.Math.Nat.{mul-le-mul_left}
+use Rattle.std.proofs.Math.Nat.{lt_of_mul-lt-mul_right}
 use Rattle.case_model.specs.declared.meshes.Mesh.{Mesh}
 use Rattle.case_model.specs.Mesh.{reaches, end_node, IsMesh}
 use Rattle.regions.specs.declared.parts.Part.{Part}
@@ -99,18 +99,12 @@ only-section mesh w p i j is first =
 
 -- ---- from the owner to the region
 
-fewer : (a b w : ℕ) → a * w < b * w → a < b
-fewer a b w h = elim (cases_lt a b) [
-  | inl l ↦ l
-  | inr l ↦ let m = mul-le-mul_left w l in absurd (omega arith)
-]
-
 region-of_own : (w n r i t windows : ℕ) → InSection w n r i t → t ≤ windows * w → r ≤ windows
 region-of_own w n zero i t windows s h = omega arith
-region-of_own w n (suc m) i t windows s h = let a = s.after in fewer m windows w (omega arith)
+region-of_own w n (suc m) i t windows s h = let a = s.after in lt_of_mul-lt-mul_right w {m = m} {n = windows} (omega arith)
 
 region-of_station : (w m d t windows : ℕ) → InStation w m d t → t ≤ windows * w → m < windows
-region-of_station w m d t windows s h = let a = s.after in fewer m windows w (omega arith)
+region-of_station w m d t windows s h = let a = s.after in lt_of_mul-lt-mul_right w {m = m} {n = windows} (omega arith)
 
 -- what a station's shape is
 pub data StationShape (layout : Layout) (mesh : Mesh) (x : ℕ) : Type 0 where

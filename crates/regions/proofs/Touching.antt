@@ -18,7 +18,7 @@ use Rattle.regions.specs.Sides.{back_of}
 use Rattle.regions.specs.Touching.{IsStanding, station_pipe, station_place, IsTouching}
 use Rattle.regions.specs.Touching.{AreTouching}
 use Rattle.regions.proofs.Cutting.{sections-some, cut-next, cut-last, reaches-long}
-use Rattle.regions.proofs.Joining.{side-from, back-from, sides-from, kind-from}
+use Rattle.regions.proofs.Joining.{side-from, back-from, sides-from, kind-from, zero-or-one}
 use Rattle.regions.proofs.Strands.{shape-node, shape-seam, shape-section, strand}
 use Rattle.regions.proofs.Strands.Strand.{IsNode, IsSeam, IsSection}
 use Rattle.regions.proofs.Whole.{IsFitted, fitted, cut-end}
@@ -110,9 +110,6 @@ touch-end layout mesh k c p true fit h l e =
     (ap (λ (x : End). if x.at_last then reaches mesh x.pipe else 0) e)
     (inr (refl, omega arith))
 
-two : (j : ℕ) → j < 2 → (j ≡ 0) ⊎ (j ≡ 1)
-two j h = grind arith
-
 touch-seam : (layout : Layout) (mesh : Mesh) (p i x c : ℕ) → IsFitted layout mesh
     → p < length mesh.pipes → i + 1 < sections_at mesh layout.window p
     → x ≡ length mesh.ends + seams_before mesh layout.window p + i → c < 2
@@ -120,7 +117,7 @@ touch-seam : (layout : Layout) (mesh : Mesh) (p i x c : ℕ) → IsFitted layout
 touch-seam layout mesh p i x c fit h b e l =
     let w : ℕ = layout.window in
     let n = shape-seam layout mesh w p i x fit.over h b e in
-    elim (two c l) [
+    elim (zero-or-one c l) [
       | inl z ↦ subst (λ (m : ℕ). IsTouching layout mesh x m) (sym z) (
           touch-from layout mesh x 0 (section_number mesh w p i) p _ _ _ _ 1
           (cut w (reaches mesh p) (i + 1)) (seam_shape mesh w p i) n

@@ -12,6 +12,7 @@ use Rattle.case_model.specs.declared.meshes.Mesh.{Mesh}
 use Rattle.report.specs.Places.{IsBefore, IsOnPipe, pipe_places, places_of_pipe}
 use Rattle.case_model.proofs.PlaceLaws.{range_more}
 use Rattle.case_model.proofs.ListFacts.{all_left, all_right}
+use Rattle.case_model.proofs.SearchLaws.{here_or_later}
 
 -- ---- parts of lists
 
@@ -21,16 +22,13 @@ pub all_of_range : {X : Type 0} (P : X → Type 0) (f : ℕ → X) (a n : ℕ) �
 all_of_range P f a zero h = All-nil P
 all_of_range P f a (suc n) h = All-cons P (f a) (map f (range_with_len (a + 1) n)) (h a (omega arith) (omega arith)) (all_of_range P f (a + 1) n (λ i low high. h i (omega arith) (omega arith)))
 
-first_or_later : (a i : ℕ) → a ≤ i → (a ≡ i) ⊎ (a + 1 ≤ i)
-first_or_later a i low = grind arith
-
 at_first_or_later : (P : ℕ → Type 0) (a i : ℕ) → (a ≡ i) ⊎ (a + 1 ≤ i) → P a → (a + 1 ≤ i → P i) → P i
 at_first_or_later P a i (inl e) here later = subst P e here
 at_first_or_later P a i (inr low) here later = later low
 
 one_of_range : {X : Type 0} (P : X → Type 0) (f : ℕ → X) (a n i : ℕ) → a ≤ i → i < a + n → All P (map f (range_with_len a n)) → P (f i)
 one_of_range P f a zero i low high h = absurd (omega arith)
-one_of_range P f a (suc n) i low high h = at_first_or_later (λ k. P (f k)) a i (first_or_later a i low) (All-head P (f a) (map f (range_with_len (a + 1) n)) h)
+one_of_range P f a (suc n) i low high h = at_first_or_later (λ k. P (f k)) a i (here_or_later a i low) (All-head P (f a) (map f (range_with_len (a + 1) n)) h)
     (λ more. one_of_range P f (a + 1) n i more (omega arith) (All-tail P (f a) (map f (range_with_len (a + 1) n)) h))
 
 -- ---- all places of the pipes
@@ -43,7 +41,7 @@ all_of_pipes P mesh a (suc n) h = All-append P (places_of_pipe mesh a) (flat_map
 
 one_of_pipes : (P : ProbeAt → Type 0) (mesh : Mesh) (a n p : ℕ) → a ≤ p → p < a + n → All P (flat_map (places_of_pipe mesh) (range_with_len a n)) → All P (places_of_pipe mesh p)
 one_of_pipes P mesh a zero p low high h = absurd (omega arith)
-one_of_pipes P mesh a (suc n) p low high h = at_first_or_later (λ k. All P (places_of_pipe mesh k)) a p (first_or_later a p low)
+one_of_pipes P mesh a (suc n) p low high h = at_first_or_later (λ k. All P (places_of_pipe mesh k)) a p (here_or_later a p low)
     (all_left P (places_of_pipe mesh a) (flat_map (places_of_pipe mesh) (range_with_len (a + 1) n)) h)
     (λ more. one_of_pipes P mesh (a + 1) n p more (omega arith) (all_right P (places_of_pipe mesh a) (flat_map (places_of_pipe mesh) (range_with_len (a + 1) n)) h))
 

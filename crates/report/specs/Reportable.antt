@@ -5,6 +5,7 @@ use Rattle.case_model.specs.Accepted.{IsAcceptedMesh}
 use Rattle.case_model.specs.PlaceNumbers.{IsOn, number_of}
 use Rattle.case_model.specs.declared.cases.Case.{Case}
 use Rattle.case_model.specs.declared.cases.ProbeAt.{ProbeAt}
+use Rattle.case_model.specs.declared.cases.TheConstants.{MOST_PROBES}
 use Rattle.case_model.specs.declared.meshes.Mesh.{Mesh}
 use Rattle.envelope.specs.Cells.{is_within}
 use Rattle.envelope.specs.Folds.{spans_of, probes_of, steps_of, every_of}
@@ -32,7 +33,7 @@ pub record IsReportable (case : Case) (mesh : Mesh) (fold : Fold) : Type 0 where
   pub same_steps : steps_of fold ≡ case.steps
   pub same_every : every_of fold ≡ case.every
   pub probes_on : All (λ probe. IsOn mesh probe.at) case.probes
-  pub few_probes : length case.probes ≤ 256
+  pub few_probes : length case.probes ≤ MOST_PROBES
   pub some_every : 1 ≤ case.every
   pub few_steps : case.steps ≤ 100_000_000
 

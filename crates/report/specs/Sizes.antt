@@ -1,6 +1,7 @@
 -- How large an accepted case is at most.
 use Rattle.std.specs.Prelude.{◌+◌, ◌*◌, ◌/◌, ◌≤◌, ◌≡◌, length}
 use Rattle.case_model.specs.declared.cases.Case.{Case}
+use Rattle.case_model.specs.declared.cases.TheConstants.{MOST_PROBES}
 use Rattle.case_model.specs.declared.meshes.Mesh.{Mesh}
 use Rattle.case_model.specs.Mesh.{places_before}
 
@@ -14,5 +15,5 @@ pub record IsSmall (case : Case) (mesh : Mesh) : Type 0 where
   pub pipes : length mesh.pipes ≤ 4_096
   pub places : places_before mesh (length mesh.pipes) ≤ 400_000
   pub numbers : mesh.places ≤ 400_000
-  pub probes : length case.probes ≤ 256
+  pub probes : length case.probes ≤ MOST_PROBES
   pub samples : length case.probes * (case.steps / case.every + 1) ≤ 4_000_000

@@ -1,5 +1,5 @@
 -- The fields of the written text break no rule of a field.
-use Rattle.std.proofs.Common.{ℕ, ◌<◌, ◌≤◌, ◌^◌, ◌≡◌, ◌==◌, ◌&&◌, ◌||◌, not, nat_lt, Bool, true, false, ℤ, pos, neg_ℤ, ◌≤ℤ◌, int_le, unsigned_abs, Ok, List, ◌∷◌, length, refl, arith}
+use Rattle.std.proofs.Common.{ℕ, ◌<◌, ◌≤◌, ◌^◌, ◌≡◌, ◌==◌, ◌&&◌, ◌||◌, not, nat_lt, Bool, true, false, ℤ, pos, neg_ℤ, unsigned_abs, Ok, List, ◌∷◌, length, refl, arith}
 use Rattle.std.proofs.lemmas.Bool.{and_right, or_from, le-ltb}
 use Rattle.std.proofs.lemmas.Int.{ints}
 use Rattle.std.specs.List.{list_any}
@@ -24,6 +24,7 @@ use Rattle.case_rules.specs.Among.{is_unknown}
 use Rattle.case_writing.specs.CaseText.{friction_word, name_of_table, name_of_node, name_of_pipe, value_text, reference_text}
 use Rattle.round_trip.specs.Writable.{IsNameText}
 use Rattle.round_trip.proofs.Amounts.{IsSmall, quantity_back, unmarked, small_above}
+use Rattle.fixed_num.proofs.Orders.{at_most_at}
 
 -- a field that breaks no rule by itself, nor among these lines
 pub record IsFit (all : List (List (List ℕ))) (kind : FieldKind) (text : List ℕ) : Type 0 where
@@ -55,13 +56,10 @@ reference_unbroken name h number =
     let l = h.short in
     none_of_two (number == 4) (not (is_reference (64 ∷ name))) (number == 10) (nat_lt 33 (length (64 ∷ name))) (rw s refl) (le-ltb 33 (length (64 ∷ name)) (omega arith))
 
-le_tested : (x y : ℤ) → x ≤ℤ y → int_le x y ≡ true
-le_tested x y h = grind (arith, ints)
-
 number_unbroken : (q : Quantity) (x : ℤ) → IsSmall x → IsWithin (limits q).least (limits q).most x → (number : ℕ) → breaks_number q (written (limits q).places x) number ≡ false
 unfolding breaks_number
 number_unbroken q x s h number =
-    rw (quantity_back q x s) (none_of_two (number == 4) (not (is_spelt (Ok x))) (number == 5) (is_outside (limits q) (Ok x)) refl (rw (le_tested (limits q).least x h.low, le_tested x (limits q).most h.high) refl))
+    rw (quantity_back q x s) (none_of_two (number == 4) (not (is_spelt (Ok x))) (number == 5) (is_outside (limits q) (Ok x)) refl (rw (at_most_at (limits q).least x h.low, at_most_at x (limits q).most h.high) refl))
 
 pub new_fit : (all : List (List (List ℕ))) (text : List ℕ) → IsNameText text → IsFit all NewName text
 unfolding breaks_field is_unknown

@@ -1,5 +1,5 @@
 -- The lines of the parts of a written case break no rule by themselves.
-use Rattle.std.proofs.Common.{inl, inr, ℕ, zero, suc, ◌+◌, ◌-◌, ◌*◌, ◌/◌, ◌%◌, ◌<◌, ◌≤◌, ◌≡◌, ◌⊎◌, ◌==◌, nat_le, Bool, true, false, ℤ, pos, ◌≤ℤ◌, ◌<ℤ◌, int_le, int_lt, Some, List, [], ◌∷◌, ◌++◌, length, get_or, subst, sym, refl, arith}
+use Rattle.std.proofs.Common.{inl, inr, ℕ, zero, suc, ◌+◌, ◌-◌, ◌*◌, ◌/◌, ◌%◌, ◌<◌, ◌≤◌, ◌≡◌, ◌⊎◌, ◌==◌, nat_le, Bool, true, false, ℤ, pos, Some, List, [], ◌∷◌, ◌++◌, length, get_or, subst, sym, refl, arith}
 use Rattle.std.proofs.lemmas.Bool.{and_from, eq-eqb, ne_eqb, le-leb, le-ltb, cases_eq}
 use Rattle.std.proofs.lemmas.Bool.Decides.{Decides-int_eq}
 use Rattle.std.proofs.lemmas.Int.{ints}
@@ -35,6 +35,7 @@ use Rattle.round_trip.proofs.Directives.{kind_word, spot_directive, of_table, of
 use Rattle.round_trip.proofs.TablesBack.{first_field, second_field, length_pairs, pair_back, pairs_counted}
 use Rattle.round_trip.proofs.FieldsFit.{IsFit, AreKnown, IsAmount, new_fit, node_fit, pipe_fit, reference_fit, amount_fit, value_fit, above, sized}
 use Rattle.netfile.proofs.TableLimits.{least_some}
+use Rattle.fixed_num.proofs.Orders.{at_most_at, less_at}
 
 -- a line that breaks no rule by itself, and whose fields name what is there
 pub record IsFitLine (all : List (List (List ℕ))) (d : Directive) (fields : List (List ℕ)) : Type 0 where
@@ -295,28 +296,21 @@ table_fields_fit all kind word name points h n zero a l = absurd (omega arith)
 table_fields_fit all kind word name points h n (suc zero) a l = n
 table_fields_fit all kind word name points h n (suc (suc k)) a l = pair_fit all kind word name points (suc (suc k)) h (of_pair (suc (suc k)) (omega arith)) l
 
--- the order of pairs, as the test asks for it
-le_tested : (x y : ℤ) → x ≤ℤ y → int_le x y ≡ true
-le_tested x y h = grind (arith, ints)
-
-lt_tested : (x y : ℤ) → x <ℤ y → int_lt x y ≡ true
-lt_tested x y h = grind (arith, ints)
-
 rises_in : (kind : TableKind) (points : List (ℤ × ℤ)) (k : ℕ) → IsInOrder kind points → k + 1 < length points → rises kind (entry_at points k).0 (entry_at points (k + 1)).0 ≡ true
-rises_in Heads points k h l = le_tested _ _ (h k l)
-rises_in Flows points k h l = le_tested _ _ (h k l)
-rises_in Openings points k h l = le_tested _ _ (h k l)
-rises_in Speeds points k h l = le_tested _ _ (h k l)
-rises_in Curve points k h l = le_tested _ _ (h.1 k l)
-rises_in Gas points k h l = le_tested _ _ (h.0 k l)
+rises_in Heads points k h l = at_most_at _ _ (h k l)
+rises_in Flows points k h l = at_most_at _ _ (h k l)
+rises_in Openings points k h l = at_most_at _ _ (h k l)
+rises_in Speeds points k h l = at_most_at _ _ (h k l)
+rises_in Curve points k h l = at_most_at _ _ (h.1 k l)
+rises_in Gas points k h l = at_most_at _ _ (h.0 k l)
 
 falls_in : (kind : TableKind) (points : List (ℤ × ℤ)) (k : ℕ) → IsInOrder kind points → k + 1 < length points → falls kind (entry_at points k).1 (entry_at points (k + 1)).1 ≡ true
 falls_in Heads points k h l = refl
 falls_in Flows points k h l = refl
 falls_in Openings points k h l = refl
 falls_in Speeds points k h l = refl
-falls_in Curve points k h l = lt_tested _ _ (h.2 k l)
-falls_in Gas points k h l = lt_tested _ _ (h.1 k l)
+falls_in Curve points k h l = less_at _ _ (h.2 k l)
+falls_in Gas points k h l = less_at _ _ (h.1 k l)
 
 begins_in : (kind : TableKind) (points : List (ℤ × ℤ)) → IsInOrder kind points → may_begin kind (entry_at points 0) ≡ true
 begins_in Heads points h = refl

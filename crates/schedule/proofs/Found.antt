@@ -6,13 +6,13 @@ use Rattle.schedule.specs.States.{State, start, run}
 use Rattle.schedule.specs.Order.{IsLeast, AreAllLeft, IsUnleft, IsPlaced, AreLeftBefore, AreLeftOf, turn_count, kind_rank}
 use Rattle.schedule.specs.Rules.{IsNeverStuck}
 use Rattle.schedule.proofs.Lists.{always_ready}
-use Rattle.schedule.proofs.Sound.{same_or}
-use Rattle.schedule.proofs.Turns.{or-under, left_none, left_more, left_to, placed_at, next_turn, placed_end, least_at, all_left}
+use Rattle.schedule.proofs.Turns.{left_none, left_more, left_to, placed_at, next_turn, placed_end, least_at, all_left}
+use Rattle.std.proofs.lemmas.Bool.{cases_eq, cases_lt}
 
 unleft_or : (net : Net) (state : State) (turn x : ℕ) → x < net.strands → IsUnleft net state turn x ⊎ (IsUnleft net state turn x → ⊥)
-unleft_or net state turn x w = elim (same_or (kind_rank (net.is_section x)) (turn % 2)) [
+unleft_or net state turn x w = elim (cases_eq (kind_rank (net.is_section x)) (turn % 2)) [
   | inr h ↦ inr (λ u. h u.kind)
-  | inl e ↦ elim (or-under (turn / 2) (state.left x)) [
+  | inl e ↦ elim (cases_lt (turn / 2) (state.left x)) [
     | inl a ↦ inr (λ u. let b = u.unleft in omega arith)
     | inr a ↦ inl (record { there = w; kind = e; unleft = a })
   ]

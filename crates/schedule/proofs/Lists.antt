@@ -1,14 +1,14 @@
 -- What lists of lawful events leave.
 use Rattle.std.proofs.Common.{◌≡◌, ◌≢◌, ◌∙◌, ℕ, ◌+◌, ◌<◌, ◌≤◌, inl, inr, Bool, true, false, List, [], ◌∷◌, ◌++◌, length, refl, sym, ap, subst, arith}
 use Rattle.std.specs.List.{range_with_len}
-use Rattle.std.proofs.lemmas.Bool.{ne_eqb}
+use Rattle.std.proofs.lemmas.Bool.{ne_eqb, cases_eq}
 use Rattle.std.proofs.Common.{eq-eqb}
 use Rattle.schedule.specs.declared.events.Event.{Event}
 use Rattle.schedule.specs.declared.events.Event.TheVariants.{Enter, Leave}
 use Rattle.schedule.specs.Nets.{Net, IsNet, needed_of, written}
 use Rattle.schedule.specs.States.{State, start, raise, after, run, IsLawful, AreLawful}
 use Rattle.schedule.specs.Rules.{IsSound, IsWithinSlots, entries, leavings, KeepsSlots, KeepsOrder, KeepsCounts, IsAlwaysReady}
-use Rattle.schedule.proofs.Sound.{enter_sound, leave_sound, least_ready, raise-same, raise-other, same_or}
+use Rattle.schedule.proofs.Sound.{enter_sound, leave_sound, least_ready, raise-same, raise-other}
 
 start_sound : (net : Net) → IsNet net → IsSound net start
 start_sound net n = record {
@@ -106,7 +106,7 @@ entries_counted net state x [] p = (refl, omega arith)
 entries_counted net state x (Leave y m ∷ events) p = entries_counted net (after net state (Leave y m)) x events p.1
 entries_counted net state x (Enter y m ∷ events) p =
     let rest = entries_counted net (after net state (Enter y m)) x events p.1 in
-    elim (same_or x y) [
+    elim (cases_eq x y) [
       | inl e ↦
           let at : state.entered x ≡ m = ap state.entered e ∙ p.0.entered in
           let up : raise state.entered y 1 x ≡ m + 1 = ap (raise state.entered y 1) e ∙ raise-same state.entered y 1 ∙ ap (λ z. z + 1) p.0.entered in
@@ -119,7 +119,7 @@ leavings_counted net state x [] p = (refl, omega arith)
 leavings_counted net state x (Enter y m ∷ events) p = leavings_counted net (after net state (Enter y m)) x events p.1
 leavings_counted net state x (Leave y m ∷ events) p =
     let rest = leavings_counted net (after net state (Leave y m)) x events p.1 in
-    elim (same_or x y) [
+    elim (cases_eq x y) [
       | inl e ↦
           let at : state.left x ≡ m = ap state.left e ∙ p.0.left in
           let up : raise state.left y 1 x ≡ m + 1 = ap (raise state.left y 1) e ∙ raise-same state.left y 1 ∙ ap (λ z. z + 1) p.0.left in

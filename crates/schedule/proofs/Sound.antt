@@ -1,7 +1,7 @@
 -- What lawful events keep.
 use Rattle.std.proofs.Common.{◌≡◌, ◌≢◌, ◌∙◌, ℕ, ◌+◌, ◌*◌, ◌<◌, ◌≤◌, ◌⊎◌, inl, inr, min, Bool, true, false, Option, Some, None, zero, suc, refl, sym, ap, subst, arith}
 use Rattle.std.specs.Prelude.{IfSome}
-use Rattle.std.proofs.lemmas.Bool.{lt-ltb, le-ltb, ne_eqb}
+use Rattle.std.proofs.lemmas.Bool.{lt-ltb, le-ltb, ne_eqb, cases_eq, cases_lt}
 use Rattle.std.proofs.Common.{eq-eqb}
 use Rattle.std.proofs.lemmas.Bool.Decides.{nat_tests}
 use Rattle.regions.specs.Needs.{needs_of}
@@ -11,7 +11,6 @@ use Rattle.schedule.specs.Nets.{Net, IsNet, HasRegion, regions_of, region_count,
 use Rattle.schedule.specs.States.{State, raise, after, MayEnter, MayLeave}
 use Rattle.schedule.specs.Order.{IsLeast, turn_of, kind_rank}
 use Rattle.schedule.specs.Rules.{IsSound}
-use Rattle.schedule.proofs.Turns.{or-under}
 
 pub raise-same : (f : ℕ → ℕ) (x n : ℕ) → raise f x n x ≡ f x + n
 raise-same f x n = rw (eq-eqb x x refl) refl
@@ -19,14 +18,8 @@ raise-same f x n = rw (eq-eqb x x refl) refl
 pub raise-other : (f : ℕ → ℕ) (x n y : ℕ) → y ≢ x → raise f x n y ≡ f y
 raise-other f x n y h = rw (ne_eqb y x h) refl
 
-pub same_or : (y x : ℕ) → (y ≡ x) ⊎ (y ≢ x)
-same_or y x = elim (or-under y x) [
-  | inl a ↦ inr (λ e. omega arith)
-  | inr a ↦ elim (or-under x y) [ inl b ↦ inr (λ e. omega arith) | inr b ↦ inl (omega arith) ]
-]
-
 pub raise-more : (f : ℕ → ℕ) (x n y : ℕ) → f y ≤ raise f x n y
-raise-more f x n y = elim (same_or y x) [
+raise-more f x n y = elim (cases_eq y x) [
   | inl e ↦ subst (λ z. f z ≤ raise f x n z) (sym e) (let q = raise-same f x n in omega arith)
   | inr h ↦ let q = raise-other f x n y h in omega arith
 ]
@@ -47,20 +40,20 @@ if-each None P h = tt
 if-each (Some b) P h = h b refl
 
 write-low : (net : Net) (m b : ℕ) → writes net m ≡ Some b → (m ≡ b) × (m < net.windows)
-write-low net m b e = elim (or-under m net.windows) [
+write-low net m b e = elim (cases_lt m net.windows) [
   | inl h ↦ let q : writes net m ≡ Some m = rw (lt-ltb m net.windows h) refl in (cc, h)
   | inr h ↦ let q : writes net m ≡ None = rw (le-ltb m net.windows h) refl in cc
 ]
 
 -- regions that aren't left come no earlier than the least
 left_past : (net : Net) (state : State) (x m y k : ℕ) → IsLeast net state x m → HasRegion net y k → turn_of net y k < turn_of net x m → k < state.left y
-left_past net state x m y k p r h = elim (or-under k (state.left y)) [
+left_past net state x m y k p r h = elim (cases_lt k (state.left y)) [
   | inl a ↦ a
   | inr a ↦ elim (p.least y k r a) [ inl b ↦ absurd (omega arith) | inr b ↦ let e : turn_of net x m ≡ turn_of net y k = b.0 in absurd (omega arith) ]
 ]
 
 pub left_is : (net : Net) (state : State) (x m : ℕ) → IsLeast net state x m → state.left x ≡ m
-left_is net state x m p = elim (or-under (state.left x) m) [
+left_is net state x m p = elim (cases_lt (state.left x) m) [
   | inl a ↦
       let n : m < region_count net x = p.region.number in
       let r : HasRegion net x (state.left x) = record { strand = p.region.strand; number = omega arith } in
@@ -119,7 +112,7 @@ least_ready net state x m n s p =
     let l = left_is net state x m p in
     let low = s.order_low x w in
     let high = s.order_high x w in
-    elim (or-under m (state.entered x)) [
+    elim (cases_lt m (state.entered x)) [
       | inl a ↦ inr (record { region = p.region; entered = omega arith; left = l })
       | inr a ↦ inl (record {
         region = p.region;

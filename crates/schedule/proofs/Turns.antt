@@ -1,11 +1,9 @@
 -- Places in the order of regions.
-use Rattle.std.proofs.Common.{◌≡◌, ◌∙◌, ℕ, ◌+◌, ◌*◌, ◌/◌, ◌%◌, ◌<◌, ◌≤◌, ◌⊎◌, inl, inr, Bool, true, false, sym, subst, arith}
+use Rattle.std.proofs.Common.{◌≡◌, ◌∙◌, ℕ, ◌+◌, ◌*◌, ◌/◌, ◌%◌, ◌<◌, ◌≤◌, inl, inr, Bool, true, false, sym, subst, arith}
 use Rattle.schedule.specs.Nets.{Net, regions_of}
 use Rattle.schedule.specs.States.{State}
 use Rattle.schedule.specs.Order.{kind_rank, turn_of, turn_count, AreLeftOf, AreLeftBefore, IsUnleft, IsPlaced, IsLeast, AreAllLeft}
-
-pub or-under : (i j : ℕ) → (i < j) ⊎ (j ≤ i)
-or-under i j = grind arith
+use Rattle.std.proofs.lemmas.Bool.{cases_lt}
 
 -- a turn tells the region number and the kind
 turn_half : (s : Bool) (k t : ℕ) → 2 * k + kind_rank s ≡ t → k ≡ t / 2
@@ -33,9 +31,9 @@ left_none net state turn low high h = record { left = λ y k l m e. absurd (omeg
 
 pub left_more : (net : Net) (state : State) (turn low high : ℕ) → high < net.strands → AreLeftOf net state turn low high → (IsUnleft net state turn high → ⊥) → AreLeftOf net state turn low (high + 1)
 left_more net state turn low high w p n = record {
-  left = λ y k l m e. elim (or-under y high) [
+  left = λ y k l m e. elim (cases_lt y high) [
     | inl b ↦ p.left y k l b e
-    | inr b ↦ elim (or-under k (state.left y)) [
+    | inr b ↦ elim (cases_lt k (state.left y)) [
       | inl q ↦ q
       | inr q ↦
           let i : y ≡ high = omega arith in
@@ -58,7 +56,7 @@ pub placed_at : (net : Net) (state : State) (turn strand x : ℕ) → turn < tur
 placed_at net state turn strand x l p q u = record {
   before = record {
     earlier = p.earlier;
-    same = λ y k h e. elim (or-under y strand) [ inl a ↦ p.same y k a e | inr b ↦ q.left y k b h e ];
+    same = λ y k h e. elim (cases_lt y strand) [ inl a ↦ p.same y k a e | inr b ↦ q.left y k b h e ];
   };
   most = omega arith;
   here = λ h. u;
@@ -67,9 +65,9 @@ placed_at net state turn strand x l p q u = record {
 -- the turn is over
 pub next_turn : (net : Net) (state : State) (turn strand : ℕ) → AreLeftBefore net state turn strand → AreLeftOf net state turn strand net.strands → AreLeftBefore net state (turn + 1) 0
 next_turn net state turn strand p q = record {
-  earlier = λ y k r h. elim (or-under (turn_of net y k) turn) [
+  earlier = λ y k r h. elim (cases_lt (turn_of net y k) turn) [
     | inl a ↦ p.earlier y k r a
-    | inr b ↦ let e : turn_of net y k ≡ turn = omega arith in elim (or-under y strand) [ inl a ↦ p.same y k a e | inr c ↦ q.left y k c r.strand e ]
+    | inr b ↦ let e : turn_of net y k ≡ turn = omega arith in elim (cases_lt y strand) [ inl a ↦ p.same y k a e | inr c ↦ q.left y k c r.strand e ]
   ];
   same = λ y k h e. absurd (omega arith);
 }
@@ -102,11 +100,11 @@ least_at net state turn strand p l =
     record {
       region = record { strand = u.there; number = turn_region (net.is_section strand) turn net.windows u.kind l };
       unleft = u.unleft;
-      least = λ y k r h. elim (or-under (turn_of net y k) turn) [
+      least = λ y k r h. elim (cases_lt (turn_of net y k) turn) [
         | inl a ↦ let b = p.before.earlier y k r a in absurd (omega arith)
-        | inr a ↦ elim (or-under turn (turn_of net y k)) [
+        | inr a ↦ elim (cases_lt turn (turn_of net y k)) [
           | inl b ↦ inl (omega arith)
-          | inr b ↦ let e : turn_of net y k ≡ turn = omega arith in elim (or-under y strand) [
+          | inr b ↦ let e : turn_of net y k ≡ turn = omega arith in elim (cases_lt y strand) [
             | inl c ↦ let d = p.before.same y k c e in absurd (omega arith)
             | inr c ↦ inr (w ∙ sym e, c)
           ]

@@ -1,8 +1,8 @@
 -- Runs of places of a pipe: the vapour head of its higher end, the law of a place by what a run knows,
 -- and how friction is taken.
-use Rattle.std.proofs.Common.{List, [], ◌∷◌, ◌++◌, length, subst, get_or, refl, not, IsTrue, inl, inr, length-append, ℕ, ◌+◌, ◌<◌, ◌≤◌, ◌≡◌, ap, sym, ◌∙◌, arith, ℤ, pos, ◌+ℤ◌, ◌-ℤ◌, ◌*ℤ◌, ◌≤ℤ◌, unsigned_abs, w64, of_z, to_z, FitsSigned}
+use Rattle.std.proofs.Common.{List, [], ◌∷◌, ◌++◌, length, subst, get_or, refl, not, IsTrue, inl, inr, length-append, ℕ, ◌+◌, ◌<◌, ◌≤◌, ◌≡◌, ap, sym, ◌∙◌, arith, ℤ, pos, ◌+ℤ◌, ◌-ℤ◌, ◌*ℤ◌, ◌≤ℤ◌, unsigned_abs, w64, of_z, to_z}
 use Rattle.std.specs.Int.{int_max, w128}
-use Rattle.std.proofs.lemmas.Int.{ints, fits_signed_from_abs, to_z-of_z}
+use Rattle.std.proofs.lemmas.Int.{ints, to_z-of_z}
 use Rattle.fixed_num.specs.Rounding.{rnd}
 use Rattle.fixed_num.proofs.Between.{IsPart, part}
 use Rattle.case_model.specs.declared.cases.Case.{Case}
@@ -30,6 +30,7 @@ use Rattle.charline.specs.declared.runs.Prepared.{Prepared}
 use Rattle.std.proofs.Math.Seq.{get_or-append_seam}
 use Rattle.std.proofs.lemmas.List.{get_or_append_left}
 use Rattle.std.proofs.lemmas.Bool.{cases_lt}
+use Rattle.charline.proofs.Calm.{double}
 
 below_higher : (first last x : ℤ) → IsPart (last -ℤ first) x → (first +ℤ x) ≤ℤ int_max first last
 below_higher first last x h = grind (arith, ints, h.up, h.down)
@@ -39,9 +40,6 @@ pub elevation_below : (first last v : ℤ) (i n : ℕ) → i < n → (elevation_
 unfolding elevation_between
 elevation_below first last v i n h =
     let b = below_higher first last (rnd ((last -ℤ first) *ℤ pos i) (pos n)) (part (last -ℤ first) i n h) in omega (arith, ints)
-
-double : (z : ℤ) → unsigned_abs z ≤ 2000000000000000000 → FitsSigned w64 z
-double z h = fits_signed_from_abs w64 z (omega arith)
 
 -- the place that a run tells is that of its law
 pub calm_is : (case : Case) (mesh : Mesh) (p i b r : ℕ) (top plus minus : ℤ) (left right : Point) (own next : Spot) → case.friction ≡ Explicit → IsOfPipe case mesh p b r top → i < reaches mesh p

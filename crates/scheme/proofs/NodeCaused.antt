@@ -52,8 +52,9 @@ use Rattle.scheme.specs.NodeLaws.{law_of_kind, law_if, node_law, sole, valve_of}
 use Rattle.scheme.specs.Values.{value_at, rule_at, IsTimed, Keeps}
 use Rattle.scheme.proofs.Divided.{computable}
 use Rattle.scheme.proofs.Following.{arrivals_length}
-use Rattle.scheme.proofs.Starting.{added, interp_between}
+use Rattle.scheme.proofs.Starting.{added}
 use Rattle.scheme.proofs.TimeTables.{flow_timed, flow_in as demand_in, opening_timed, opening_in}
+use Rattle.fixed_num.proofs.Between.{interp_within}
 
 -- a state judged by what it needs
 record Judged (s : NodeState) (Needs : Type 0) : Type 0 where
@@ -275,7 +276,7 @@ value_within : (case : Case) (v : Value) (step : ℕ) → IsTimed case v → (lo
 unfolding value_at
 value_within case (Fixed x) step timed low high k = k
 value_within case (ByTable t) step timed low high k =
-    interp_between low high (table_at case t).points _ timed.1.some (recursion_from_All (λ e. IsBetween low high e.1) (table_at case t).points k)
+    interp_within low high (table_at case t).points _ timed.1.some (recursion_from_All (λ e. IsBetween low high e.1) (table_at case t).points k)
 
 inline-judged : (q0 h0 opening : ℤ) (one two : Arrival) → Judged (through_state (inline_through q0 h0 opening one two)) (InlineNeeds q0 h0 opening one two)
 unfolding inline_through

@@ -1,6 +1,6 @@
 -- Every point and state at step 0 is Good.
 use Rattle.std.proofs.Common.{◌≡◌, ℕ, suc, ◌*◌, ◌<◌, ◌≤◌, ◌⊎◌, inl, inr, Bool, true, false, cond, int_lt, List, [], ◌∷◌, length, ℤ, pos, neg_ℤ, ◌+ℤ◌, ◌-ℤ◌, ◌*ℤ◌, ◌≤ℤ◌, ◌<ℤ◌, unsigned_abs, refl, ap, subst, sym, arith}
-use Rattle.std.specs.List.{All, AllByRecursion}
+use Rattle.std.specs.List.{All}
 use Rattle.std.proofs.Math.ListN.{get_or-eq_default}
 use Rattle.std.proofs.lemmas.Int.{ints}
 use Rattle.std.proofs.lemmas.Bool.{cases_lt}
@@ -29,6 +29,7 @@ use Rattle.scheme.specs.Values.{value_at}
 use Rattle.scheme.proofs.Shares.{part_below, share_up, share_down}
 use Rattle.scheme.proofs.TimeTables.{found}
 use Rattle.fixed_num.proofs.Orders.{less_of, not_less_of}
+use Rattle.fixed_num.proofs.Between.{interp_within, line_within}
 
 -- ---- a part of the way between two numbers lies between them
 
@@ -49,30 +50,11 @@ part_between low high a b x d h i some m = elim (sign_of (b -ℤ a)) [
 
 -- ---- and so does the value of a table
 
-as_size : (x : ℤ) → pos 0 ≤ℤ x → pos (unsigned_abs x) ≡ x
-as_size x h = omega (arith, ints)
-
-on_line_between : (low high : ℤ) (from to : ℤ × ℤ) (t : ℤ) → IsBetween low high from.1 → IsBetween low high to.1 → from.0 ≤ℤ t → t <ℤ to.0 → IsBetween low high (on_line from to t)
-unfolding on_line
-on_line_between low high from to t h i m n =
-    let x : pos (unsigned_abs (t -ℤ from.0)) ≡ t -ℤ from.0 = as_size (t -ℤ from.0) (omega (arith, ints)) in
-    let d : pos (unsigned_abs (to.0 -ℤ from.0)) ≡ to.0 -ℤ from.0 = as_size (to.0 -ℤ from.0) (omega (arith, ints)) in
-    let p = part_between low high from.1 to.1 (unsigned_abs (t -ℤ from.0)) (unsigned_abs (to.0 -ℤ from.0)) h i (omega (arith, ints)) (omega (arith, ints)) in
-    subst (λ (e : ℤ). IsBetween low high (from.1 +ℤ rnd ((to.1 -ℤ from.1) *ℤ (t -ℤ from.0)) e)) d
-    (subst (λ (y : ℤ). IsBetween low high (from.1 +ℤ rnd ((to.1 -ℤ from.1) *ℤ y) (pos (unsigned_abs (to.0 -ℤ from.0))))) x p)
-
 step_between : (low high : ℤ) (from to : ℤ × ℤ) (t rest : ℤ) (before first : Bool) → int_lt t to.0 ≡ before → int_lt t from.0 ≡ first → IsBetween low high from.1 → IsBetween low high to.1 → IsBetween low high rest
     → IsBetween low high (cond before (cond first from.1 (on_line from to t)) rest)
 step_between low high from to t rest true true e f h i r = h
-step_between low high from to t rest true false e f h i r = on_line_between low high from to t h i (not_less_of t from.0 f) (less_of t to.0 e)
+step_between low high from to t rest true false e f h i r = line_within low high from to t h i (not_less_of t from.0 f) (less_of t to.0 e)
 step_between low high from to t rest false first e f h i r = r
-
-pub interp_between : (low high : ℤ) (points : List (ℤ × ℤ)) (t : ℤ) → 0 < length points → AllByRecursion (λ e. IsBetween low high e.1) points → IsBetween low high (interp points t)
-unfolding interp
-interp_between low high [] t some h = absurd (omega (arith, some))
-interp_between low high (last ∷ []) t some h = h.0
-interp_between low high (from ∷ to ∷ points) t some h =
-    step_between low high from to t (interp (to ∷ points) t) (int_lt t to.0) (int_lt t from.0) refl refl h.0 h.1.0 (interp_between low high (to ∷ points) t (omega arith) h.1)
 
 sized : (x : ℤ) → IsHead x → IsBetween (neg_ℤ (pos 100_000_000_000)) (pos 100_000_000_000) x
 sized x h = record { low = omega (arith, ints); high = omega (arith, ints) }
@@ -82,7 +64,7 @@ size_of x h = let l = h.low in let m = h.high in omega (arith, ints)
 
 interp_head : (points : List (ℤ × ℤ)) (t : ℤ) → 0 < length points → All (λ e. IsHead e.1) points → IsHead (interp points t)
 interp_head points t some h =
-    size_of _ (interp_between (neg_ℤ (pos 100_000_000_000)) (pos 100_000_000_000) points t some
+    size_of _ (interp_within (neg_ℤ (pos 100_000_000_000)) (pos 100_000_000_000) points t some
     (recursion_from_All (λ e. IsBetween (neg_ℤ (pos 100_000_000_000)) (pos 100_000_000_000) e.1) points (λ k d l. sized _ (h k d l))))
 
 -- ---- heads, volumes and inflows at the start

@@ -24,7 +24,8 @@ pub struct Physics<'a> {
     mesh: &'a Mesh,
     table: &'a [PreparedPipe],
     ghost fit: { IsComputable case.now mesh.now } by { IsComputable-prop case.now mesh.now },
-    ghost prepared: { ArePrepared case.now mesh.now table.now } by { ArePrepared-prop case.now mesh.now table.now },
+    ghost prepared: { ArePrepared case.now mesh.now table.now } by { ArePrepared-prop case.now
+        mesh.now table.now },
 }
 
 impl<'a> Physics<'a> {

@@ -3,7 +3,7 @@ use Rattle.std.proofs.Common.{◌≡◌, ℕ, ◌+◌, ◌-◌, ◌<◌, ◌≤�
 use Rattle.std.proofs.Common.{arith, Bool, true, false, Some, if◌then◌else◌}
 use Rattle.std.specs.Prelude.{◌||◌, not}
 use Rattle.std.proofs.Math.Bool.{and-false}
-use Rattle.std.proofs.lemmas.Bool.{eq-eqb, le-leb, le-ltb, lt-leb, lt-ltb, ne_eqb, true≢false}
+use Rattle.std.proofs.lemmas.Bool.{eq-eqb, le-leb, le-ltb, lt-leb, lt-ltb, ne_eqb, true≢false, cases_eq}
 use Rattle.case_model.specs.declared.points.Point.{Point}
 use Rattle.case_model.specs.Meaning.{Meaning}
 use Rattle.case_model.specs.Rows.{row}
@@ -13,7 +13,7 @@ use Rattle.fronts.specs.Fronts.{Holds, ever, loaded, risen, spot, tent}
 use Rattle.fronts.specs.Noted.{run_noted}
 use Rattle.fronts.specs.Stretches.{AreSamePlaces, IsPut, count_of, kept}
 use Rattle.fronts.specs.declared.stretches.Stretch.{Stretch}
-use Rattle.fronts.proofs.Lining.{is-now, run-before, run-in, where-is}
+use Rattle.fronts.proofs.Lining.{run-before, run-in, where-is}
 use Rattle.fronts.proofs.Raising.{same-spot}
 use Rattle.strands.proofs.Handing.{before-or-at}
 use Rattle.strands.proofs.Marking.{ArePlaces, IsSplit, numbered-line, rows-at, same-line}
@@ -78,7 +78,7 @@ pub split-start : (law : Meaning) (stretch : Stretch) (low high : ℕ) → ArePl
 split-start law stretch low high places line inside held s k =
     let from = stretch.number + low in
     let until = stretch.number + high in
-    elim (is-now s 0) [
+    elim (cases_eq s 0) [
       | inr e ↦ inr (start-later from until s k e, run-before stretch 0 low high s k (inl e))
       | inl e ↦ elim (where-is k from until) [
         | inl a ↦ inr (

@@ -2,7 +2,7 @@
 use Rattle.std.proofs.Common.{◌≡◌, ℕ, ◌+◌, ◌-◌, ◌<◌, ◌≤◌, ◌⊎◌, inl, inr, ◌∙◌, ap, sym, subst, refl, arith, Bool, true, false, cond, Option, Some, None}
 use Rattle.std.specs.Prelude.{◌||◌}
 use Rattle.std.proofs.Math.Bool.{and-false}
-use Rattle.std.proofs.lemmas.Bool.{eq-eqb, lt-ltb, le-ltb, le-leb, lt-leb, ne_eqb}
+use Rattle.std.proofs.lemmas.Bool.{eq-eqb, lt-ltb, le-ltb, le-leb, lt-leb, ne_eqb, cases_eq}
 use Rattle.case_model.specs.declared.cases.ProbeAt.{ProbeAt}
 use Rattle.case_model.specs.declared.cases.ProbeAt.TheVariants.{OnPipe}
 use Rattle.case_model.specs.declared.meshes.Mesh.{Mesh}
@@ -18,7 +18,7 @@ use Rattle.fronts.specs.Fronts.{Holds, Raises, spot}
 use Rattle.fronts.specs.Noted.{run_noted}
 use Rattle.fronts.specs.Stretches.{AreSamePlaces, count_of, kept}
 use Rattle.fronts.specs.declared.stretches.Stretch.{Stretch}
-use Rattle.fronts.proofs.Lining.{is-now, run-before, run-in, value-of, where-is}
+use Rattle.fronts.proofs.Lining.{run-before, run-in, value-of, where-is}
 use Rattle.strands.specs.Marks.{Marks, is_between, is_only, marked, or_marked}
 use Rattle.strands.specs.Sections.{IsLine, IsNumberedLine}
 
@@ -172,7 +172,7 @@ split-run law stretch step low high since front later s k places line inside ra 
             let w : since x ≤ step = (ra.own x b (omega arith) (omega arith)).0 in
             let f : front x ≡ step = (ra.own x b (omega arith) (omega arith)).1 in
             let g : later x ≡ step + 1 = ra.raised x b (omega arith) (omega arith) in
-            elim (is-now s (step + 1)) [
+            elim (cases_eq s (step + 1)) [
               | inl e ↦ inl (
                 between-in stretch front later s k (omega arith) (omega arith) (omega arith) (omega arith),
                 run-in stretch (step + 1) low high s k e lo hi
@@ -220,7 +220,7 @@ same-split-run law old new step low high since front later places line same insi
 pub split-only : (law : Meaning) (stretch : Stretch) (step at s k : ℕ) → ArePlaces → IsNumberedLine law stretch
     → at < count_of stretch → kept stretch step at ≡ spot law stretch step at
     → IsSplit law (run_noted stretch step at (at + 1)) (is_only step (stretch.number + at)) s k
-split-only law stretch step at s k places line b h = elim (is-now s step) [
+split-only law stretch step at s k places line b h = elim (cases_eq s step) [
   | inr e ↦ inr (rw (ne_eqb s step e) refl, run-before stretch step at (at + 1) s k (inl e))
   | inl e ↦ elim (where-is k (stretch.number + at) (stretch.number + at + 1)) [
     | inl a ↦ inr (rw (ne_eqb k (stretch.number + at) (λ f. omega arith), and-false) refl, run-before stretch step at (at + 1) s k (inr (inl a)))

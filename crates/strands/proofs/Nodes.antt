@@ -5,7 +5,7 @@ use Rattle.std.proofs.Common.{length, take, set, get_or, Some}
 use Rattle.std.specs.List.{list_any}
 use Rattle.std.specs.Prelude.{◌≢◌, ◌||◌, ◌&&◌, ◌==◌}
 use Rattle.std.proofs.Math.Bool.{and-false, or-false}
-use Rattle.std.proofs.lemmas.Bool.{eq-eqb, lt-ltb, le-leb, le-ltb, lt-leb, ne_eqb}
+use Rattle.std.proofs.lemmas.Bool.{eq-eqb, lt-ltb, le-leb, le-ltb, lt-leb, ne_eqb, cases_eq}
 use Rattle.std.proofs.lemmas.List.{ext_get_or, get_or-append_right, get_or-set_other}
 use Rattle.std.proofs.lemmas.List.{get_or-set_same, get_or_append_left, get_or_default, get_or_read}
 use Rattle.std.proofs.lemmas.List.{length-append, length-set, take_more}
@@ -30,10 +30,9 @@ use Rattle.envelope.specs.declared.folds.Fold.{Fold}
 use Rattle.fronts.specs.Fronts.{spot}
 use Rattle.fronts.specs.Stretches.{count_of}
 use Rattle.fronts.specs.declared.stretches.Stretch.{Stretch}
-use Rattle.fronts.proofs.Lining.{is-now}
 use Rattle.strands.proofs.Advancing.{between-join, or-assoc, same-marks}
 use Rattle.strands.proofs.Marking.{ArePlaces, IsSplit, same-between}
-use Rattle.strands.proofs.Spoking.{places-then, spoke-begins, spoke-next}
+use Rattle.strands.proofs.Spoking.{spoke-begins, spoke-next}
 use Rattle.strands.specs.Hubs.{AreNewSpokes, EachSpoke, IsHub, IsHubAfter, IsHubAt, IsHubEnd}
 use Rattle.strands.specs.Hubs.{IsHubNode, IsHubStepped, IsLoaded, IsNewHub, IsSameHub, IsSideLoaded}
 use Rattle.strands.specs.Hubs.{IsSpokeOf, NotesHub, hub_marks, is_passed}
@@ -44,6 +43,8 @@ use Rattle.strands.specs.Spokes.{spokes_marks}
 use Rattle.strands.specs.Stations.{half}
 use Rattle.strands.specs.declared.hubs.Hub.{Hub}
 use Rattle.strands.specs.declared.spokes.Spoke.{Spoke}
+use Rattle.envelope.proofs.Lined.{same-then}
+use Rattle.fronts.proofs.Keeping.{places-then}
 
 -- ---- marks
 
@@ -168,7 +169,7 @@ spokes-nothing w s k (spoke ∷ spokes) t p =
 -- one step of the node is that step alone
 pub passed-one : (place s k t p : ℕ) → is_only (s + k + 1) place t p ≡ is_passed s k (k + 1) place t
     p
-passed-one place s k t p = elim (is-now t (s + k + 1)) [
+passed-one place s k t p = elim (cases_eq t (s + k + 1)) [
   | inl e ↦
       rw (eq-eqb t (s + k + 1) e) refl ∙ sym (passed-some place s k (k + 1) t p (omega arith)
       (omega arith))
@@ -220,9 +221,9 @@ pub split-node : (law : Meaning) (node step : ℕ) (state : NodeState) (s k : �
     → IsNumbered law.mesh
     → node < length law.mesh.ends → state ≡ (row law step).state node
     → IsSplit law (only step node (OfNode state)) (is_only step node) s k
-split-node law node step state s k places numbered there e = elim (is-now s step) [
+split-node law node step state s k places numbered there e = elim (cases_eq s step) [
   | inr a ↦ inr (rw (ne_eqb s step a) refl, rw (ne_eqb s step a) refl)
-  | inl a ↦ elim (is-now k node) [
+  | inl a ↦ elim (cases_eq k node) [
     | inr b ↦ inr (rw (ne_eqb k node b, and-false) refl, rw (ne_eqb k node b, and-false) refl)
     | inl b ↦ inl (
       rw (eq-eqb s step a, eq-eqb k node b) refl,
@@ -348,14 +349,6 @@ stepped-none law w s k olds = record {
 }
 
 -- ---- folds
-
-pub fold-then : (a b c : Fold) → IsSameFold a b → IsSameFold b c → IsSameFold a c
-fold-then a b c h k = record {
-  spans_are = k.spans_are ∙ h.spans_are;
-  probes_are = k.probes_are ∙ h.probes_are;
-  steps_are = k.steps_are ∙ h.steps_are;
-  every_is = k.every_is ∙ h.every_is;
-}
 
 pub notes-spoke : (spoke : Spoke) (before after : Fold) → IsSameFold before after
     → NotesSpoke spoke before → NotesSpoke spoke after
@@ -545,7 +538,7 @@ each-set : (P : ℕ → Spoke → Type 0) (spokes : List Spoke) (side : ℕ) (x 
     → EachSpoke P (set spokes side x)
 each-set P spokes side x h now i d b =
     let size : length (set spokes side x) ≡ length spokes = length-set spokes side x in
-    elim (is-now i side) [
+    elim (cases_eq i side) [
       | inl e ↦
           subst (λ j. P j (get_or (set spokes side x) j d)) (sym e)
           (subst (P side) (sym (get_or-set_same spokes side x d (omega arith))) now)
@@ -567,7 +560,7 @@ same-hub-set old new side x n e b h = record {
   each = ap length e ∙ length-set old.spokes.items side x;
   spokes = λ i d l.
       subst (λ ys. IsSameSpoke (get_or old.spokes.items i d) (get_or ys i d)) (sym e)
-      (elim (is-now i side) [
+      (elim (cases_eq i side) [
         | inl f ↦
             subst (λ j. IsSameSpoke (get_or old.spokes.items j d)
             (get_or (set old.spokes.items side x) j d)) (sym f)
@@ -698,7 +691,7 @@ pub hub-stepped-more : (law : Meaning) (w s from mid until : ℕ) (old now new :
 hub-stepped-more law w s from mid until old now new first second third a b one two = record {
   same = same-hub-then old now new one.same two.same;
   computed = two.computed;
-  same_fold = fold-then first second third one.same_fold two.same_fold;
+  same_fold = same-then first second third one.same_fold two.same_fold;
   stands = λ marks st.
       same-marks law third (or_marked (or_marked marks (hub_marks w s from mid old))
       (hub_marks w s mid until now)) (or_marked marks (hub_marks w s from until old))
@@ -738,7 +731,7 @@ hub-stepped-one law w s k old new first second third n e later h f one two spoke
             ∙ ap (row law (s + (k + 1))).state (sym n);
         spokes = λ i d b. (later i d (subst (λ z. i < z) e b)).computed;
       };
-      same_fold = fold-then first second third one two;
+      same_fold = same-then first second third one two;
       stands = λ marks st.
           same-marks law third (or_marked
           (or_marked marks (spokes_marks w s k (k + 1) old.spokes.items))

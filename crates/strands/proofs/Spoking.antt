@@ -189,14 +189,6 @@ spoke-triangle false w s a = record { front_is = λ d b. omega arith; since_is =
 
 -- ---- after a step
 
-pub places-then : (a b c : Stretch) → AreSamePlaces a b → AreSamePlaces b c → AreSamePlaces a c
-places-then a b c h k = record {
-  pipe_is = k.pipe_is ∙ h.pipe_is;
-  first_is = k.first_is ∙ h.first_is;
-  number_is = k.number_is ∙ h.number_is;
-  count_is = k.count_is ∙ h.count_is;
-}
-
 -- the places beside the end are raised, then the end's point is put
 pub spoke-holds : (law : Meaning) (last : Bool) (n step most low at : ℕ) (old mid new : Stretch)
     (since front later : ℕ → ℕ) (point : Point)

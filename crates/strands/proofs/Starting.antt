@@ -1,5 +1,5 @@
 -- The start of a seam: its own point alone, kept and noted.
-use Rattle.std.proofs.Common.{◌≡◌, ℕ, ◌+◌, ◌-◌, ◌*◌, ◌<◌, ◌≤◌, ◌⊎◌, inl, inr, ◌∙◌, ap, sym, refl}
+use Rattle.std.proofs.Common.{◌≡◌, ℕ, ◌+◌, ◌-◌, ◌*◌, ◌<◌, ◌≤◌, inl, inr, ◌∙◌, ap, sym, refl}
 use Rattle.std.proofs.Common.{arith, Bool, true, false}
 use Rattle.std.specs.Prelude.{◌^◌, length}
 use Rattle.std.proofs.lemmas.Bool.{le-ltb, lt-ltb}
@@ -13,9 +13,7 @@ use Rattle.fronts.specs.declared.stretches.Stretch.{Stretch}
 use Rattle.strands.specs.Seams.{is_loaded, open_front, open_since}
 use Rattle.strands.specs.Sections.{IsLine}
 use Rattle.strands.specs.Stations.{half, seam_front, seam_since}
-
-order : (x y : ℕ) → (x < y) ⊎ ((x ≡ y) ⊎ (y < x))
-order x y = grind arith
+use Rattle.envelope.proofs.Lined.{where-stands}
 
 -- ---- what is loaded
 
@@ -52,7 +50,7 @@ pub puts-start : (w place count : ℕ) → place ≡ half w
 puts-start w place count e = record {
   here = front-in false false w 0 place (loaded-own false false (half w) place e) ∙ omega arith;
   kept = λ t f l. absurd (omega arith);
-  beside = λ x b k. elim (order x (half w)) [
+  beside = λ x b k. elim (where-stands x (half w)) [
     | inl a ↦
         let g = since-out false false w 0 x (loaded-left false false (half w) x a) in
         (front-out false false w 0 x (loaded-left false false (half w) x a), omega arith)

@@ -1,9 +1,9 @@
 -- The blocks of a station: what it takes in, distance by distance, and what it hands on.
-use Rattle.std.proofs.Common.{◌≡◌, ℕ, ◌+◌, ◌-◌, ◌*◌, ◌/◌, ◌<◌, ◌≤◌, ◌⊎◌, inl, inr, ◌∙◌, ap, sym}
+use Rattle.std.proofs.Common.{◌≡◌, ℕ, ◌+◌, ◌-◌, ◌*◌, ◌/◌, ◌<◌, ◌≤◌, inl, inr, ◌∙◌, ap, sym}
 use Rattle.std.proofs.Common.{refl, arith, subst, Bool, true, false, if◌then◌else◌}
 use Rattle.std.specs.Prelude.{◌≢◌}
 use Rattle.std.proofs.Math.Bool.{and-false}
-use Rattle.std.proofs.lemmas.Bool.{eq-eqb, le-leb, le-ltb, lt-leb, lt-ltb, ne_eqb}
+use Rattle.std.proofs.lemmas.Bool.{eq-eqb, le-leb, le-ltb, lt-leb, lt-ltb, ne_eqb, cases_lt}
 use Rattle.case_model.specs.declared.points.Point.{Point}
 use Rattle.case_model.specs.Meaning.{Meaning}
 use Rattle.fronts.specs.Bands.{from_place}
@@ -16,9 +16,6 @@ use Rattle.strands.specs.Beside.{HasBeside, IsTriangle, beside, inner_side, is_b
 use Rattle.strands.specs.Beside.{station_tells, taken_front, taken_since}
 use Rattle.strands.specs.Blocks.{HasPoints, station_step}
 use Rattle.strands.specs.declared.handed.StationBlock.{StationBlock}
-
-below : (x y : ℕ) → (x < y) ⊎ (y ≤ x)
-below x y = grind arith
 
 -- ---- places beside a station
 
@@ -49,20 +46,20 @@ is-in false at d count a h =
 is-as : (right : Bool) (at d count x : ℕ) → 1 ≤ d → HasBeside right at d count
     → x ≢ beside right at d
     → is_beside right at d x ≡ is_beside right at (d - 1) x
-is-as true at d count x a h k = elim (below at x) [
+is-as true at d count x a h k = elim (cases_lt at x) [
   | inr b ↦ rw (le-ltb at x b) refl
-  | inl b ↦ elim (below x (at + d)) [
+  | inl b ↦ elim (cases_lt x (at + d)) [
     | inl c ↦ rw (le-leb x (at + d) (omega arith), le-leb x (at + (d - 1)) (omega arith)) refl
     | inr c ↦
         let e : at + d < x = omega arith in
         rw (lt-leb x (at + d) e, lt-leb x (at + (d - 1)) (omega arith)) refl
   ]
 ]
-is-as false at d count x a h k = elim (below x at) [
+is-as false at d count x a h k = elim (cases_lt x at) [
   | inr b ↦ rw (le-ltb x at b) refl
   | inl b ↦
       let g : d ≤ at = h.0 in
-      elim (below at (x + d)) [
+      elim (cases_lt at (x + d)) [
         | inl c ↦ rw (le-leb at (x + d) (omega arith), le-leb at (x + (d - 1)) (omega arith)) refl
         | inr c ↦
             let e : x + d < at = omega arith in
@@ -71,11 +68,11 @@ is-as false at d count x a h k = elim (below x at) [
 ]
 
 is-none : (right : Bool) (at x : ℕ) → is_beside right at 0 x ≡ false
-is-none true at x = elim (below at x) [
+is-none true at x = elim (cases_lt at x) [
   | inr b ↦ rw (le-ltb at x b) refl
   | inl b ↦ rw (lt-leb x (at + 0) (omega arith), and-false) refl
 ]
-is-none false at x = elim (below x at) [
+is-none false at x = elim (cases_lt x at) [
   | inr b ↦ rw (le-ltb x at b) refl
   | inl b ↦ rw (lt-leb at (x + 0) (omega arith), and-false) refl
 ]
@@ -249,7 +246,7 @@ taken-none law stretch right at w s since front h = record {
 
 step-of : (w s j : ℕ) → j < w
     → (s + (w - 1 - j / 2) ≤ s + station_step w j) × (s + station_step w j ≤ s + (w - j / 2))
-step-of w s j b = elim (below (j + 1) w) [
+step-of w s j b = elim (cases_lt (j + 1) w) [
   | inl a ↦ rw (ne_eqb (j + 1) w (λ e. omega arith)) (omega arith, omega arith)
   | inr a ↦ rw (eq-eqb (j + 1) w (omega arith)) (omega arith, omega arith)
 ]

@@ -6,6 +6,7 @@ use Rattle.case_model.specs.Mesh.{IsNumbered, end_index, end_node, ends_of, reac
 use Rattle.case_model.specs.Rows.{row}
 use Rattle.case_model.specs.declared.meshes.End.{End}
 use Rattle.case_model.specs.declared.meshes.Mesh.{Mesh}
+use Rattle.case_model.specs.declared.meshes.TheConstants.{MOST_ENDS}
 use Rattle.case_model.specs.declared.points.Point.{Point}
 use Rattle.envelope.specs.Cells.{is_within}
 use Rattle.envelope.specs.Folds.{IsSameFold, Stands, spans_of}
@@ -29,7 +30,7 @@ pub record IsHubEnd (mesh : Mesh) (w node index : ℕ) (end : End) : Type 0 wher
 -- a node of which each end can
 pub record IsHubNode (mesh : Mesh) (w node : ℕ) : Type 0 where
   pub there : node < length mesh.ends
-  pub few : length (ends_of mesh node) ≤ 16
+  pub few : length (ends_of mesh node) ≤ MOST_ENDS
   pub ends : (i : ℕ) (d : End) → i < length (ends_of mesh node)
       → IsHubEnd mesh w node i (slice_index_or (ends_of mesh node) i d)
 
@@ -56,7 +57,7 @@ pub record IsHub (law : Meaning) (hub : Hub) : Type 0 where
   pub numbered : IsNumbered law.mesh
   pub there : hub.node < length law.mesh.ends
   pub each : length hub.spokes.items ≡ length (ends_of law.mesh hub.node)
-  pub few : length hub.spokes.items ≤ 16
+  pub few : length hub.spokes.items ≤ MOST_ENDS
   pub ends : EachSpoke (IsSpokeOf law.mesh hub.node) hub.spokes.items
 
 -- a hub that is computed up to step s, with the blocks that are loaded for the window from it on

@@ -15,7 +15,7 @@ mod sources;
 mod stream;
 mod writing;
 
-pub use line::Line;
+pub use line::{LINE_WIDTH, Line};
 pub use memory::{MemorySink, MemorySource, SteadySource};
 pub use page::Page;
 pub use reading::{ReadFault, whole};

@@ -8,12 +8,12 @@ use fixed_num::write_decimal;
 use std::marker::Model;
 
 /// How many bytes a line has at most.
-const WIDTH: usize = 256;
+pub const LINE_WIDTH: usize = 256;
 
 /// A line of up to 256 bytes, which contracts see as their list.
 #[derive(Drop)]
 pub struct Line {
-    bytes: [u8; WIDTH],
+    bytes: [u8; LINE_WIDTH],
     used: usize,
 }
 
@@ -22,7 +22,7 @@ impl Model for Line {
 
     ghost view = { λ l. take l.used l.bytes };
 
-    ghost invariant = { λ l. l.used ≤ 256 };
+    ghost invariant = { λ l. l.used ≤ LINE_WIDTH };
 }
 
 impl Line {
@@ -38,7 +38,7 @@ impl Line {
 
     /// Adds a piece at the end.
     pub fn push(&mut self, piece: &[u8])
-        requires { length self.old + length piece.now ≤ 256 }
+        requires { length self.old + length piece.now ≤ LINE_WIDTH }
         ensures { self.new ≡ self.old ++ piece.now }
     {
         self.used = place(&mut self.bytes, self.used, piece);
@@ -46,7 +46,7 @@ impl Line {
 
     /// Adds a blank and a field.
     pub fn add_field(&mut self, field: &[u8])
-        requires { length self.old + 1 + length field.now ≤ 256 }
+        requires { length self.old + 1 + length field.now ≤ LINE_WIDTH }
         ensures { self.new ≡ self.old ++ 32 ∷ field.now }
     {
         self.push(b" ");
@@ -84,8 +84,8 @@ impl Line {
 }
 
 // The bytes of an empty line.
-fn blank() -> [u8; WIDTH] {
-    [0; WIDTH]
+fn blank() -> [u8; LINE_WIDTH] {
+    [0; LINE_WIDTH]
 }
 
 /// Puts a piece over the bytes from a place on, which the piece doesn't overrun, and answers where

@@ -16,7 +16,7 @@ use crate::status::Status;
 use crate::top::ended;
 use case_model::{Case, Mesh};
 use envelope::{Fold, folds_tell_rows, numbers_tell_places};
-use regionrun::{Gate, Survey, Workers, compute};
+use regionrun::{Gate, MOST_WORKERS, Survey, Workers, compute};
 use regions::{WIDEST_WINDOW, layout};
 use report::{sizes, write_range};
 use scheme::{Physics, prepare};
@@ -36,7 +36,7 @@ pub(crate) fn rounds<R: Threads + AllocGlobal + Sync, K: Sink, G: Gate + Sync>(
 ) -> Status
     requires accepted { IsAccepted case.now mesh.now }
     requires least { 1 ≤ workers.now.count }
-    requires most { workers.now.count ≤ 64 }
+    requires most { workers.now.count ≤ MOST_WORKERS }
     requires some { 1 ≤ wish }
     requires few { wish ≤ WIDEST_WINDOW }
     ensures { let text = rows_text case.now mesh.now in
@@ -60,7 +60,7 @@ pub(crate) fn peak<R: Threads + AllocGlobal + Sync, K: Sink, G: Gate + Sync>(
 ) -> Status
     requires accepted { IsAccepted case.now mesh.now }
     requires least { 1 ≤ workers.now.count }
-    requires most { workers.now.count ≤ 64 }
+    requires most { workers.now.count ≤ MOST_WORKERS }
     requires some { 1 ≤ wish }
     requires few { wish ≤ WIDEST_WINDOW }
     ensures { let text = peak_of_rows case.now mesh.now in
@@ -82,7 +82,7 @@ fn fold_rows<R: Threads + AllocGlobal + Sync, G: Gate + Sync>(
 ) -> Result<Fold, AllocError>
     requires accepted { IsAccepted case.now mesh.now }
     requires least { 1 ≤ workers.now.count }
-    requires most { workers.now.count ≤ 64 }
+    requires most { workers.now.count ≤ MOST_WORKERS }
     requires some { 1 ≤ wish }
     requires few { wish ≤ WIDEST_WINDOW }
     ensures given { let probes = numbers_of mesh.now case.now in IfOk result (λ fold.

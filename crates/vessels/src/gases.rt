@@ -13,7 +13,7 @@ ghost use Rattle.std.specs.Prelude.{
 };
 ghost use Rattle.fixed_num.specs.Rounding.{rnd as rounded};
 ghost use Rattle.fixed_num.specs.Tables.{interp as interpolated};
-ghost use Rattle.case_model.specs.Limits.{IsWithin, IsEntry, IsInOrder};
+ghost use Rattle.case_model.specs.Limits.{IsWithin, IsEntry, IsInOrder, most_entries};
 ghost use Rattle.case_model.specs.declared.cases.TableKind.TheVariants.{Gas};
 ghost use Rattle.case_model.specs.Range.{IsState};
 ghost use Rattle.charline.specs.Characteristics.{IsArrival};
@@ -45,7 +45,7 @@ pub fn vessel(
 ) -> NodeState
     requires dt_in { IsWithin (pos 1) (pos 1_000_000) dt }
     requires some_points { 2 ≤ length gas.now }
-    requires few_points { length gas.now ≤ 64 }
+    requires few_points { length gas.now ≤ most_entries Gas }
     requires points_in { All (IsEntry Gas) gas.now }
     requires order { IsInOrder Gas gas.now }
     requires own_in { IsState own.now }

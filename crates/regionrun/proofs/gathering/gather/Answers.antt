@@ -3,8 +3,9 @@ use Rattle.envelope.specs.Folds.{Stands}
 use Rattle.regionrun.specs.Gathering.{IsDone, IsPart}
 use Rattle.regionrun.specs.Owned.{owned_below}
 use Rattle.strands.specs.Marks.{marked}
-use Rattle.regionrun.proofs.Merging.{all-gathered, none-gathered, same-part, same-then}
+use Rattle.regionrun.proofs.Merging.{all-gathered, none-gathered, same-part}
 use Rattle.regionrun.proofs.gathering.gather.Goals as goal
+use Rattle.envelope.proofs.Lined.{same-then}
 
 pub loop-strand-init : goal.loop-strand-init
 loop-strand-init g c = record {

@@ -2,12 +2,13 @@ use Rattle.std.proofs.Common.{◌≡◌, ◌+◌, List, take, refl, subst}
 use Rattle.std.proofs.Common.{sym, arith}
 use Rattle.std.proofs.lemmas.List.{get_or_read, take_all}
 use Rattle.envelope.specs.Folds.{Stands}
-use Rattle.strands.proofs.Nodes.{fold-then, notes-spoke, stands-more, stands-none}
+use Rattle.strands.proofs.Nodes.{notes-spoke, stands-more, stands-none}
 use Rattle.strands.specs.Marks.{is_only, marked, or_marked}
 use Rattle.strands.specs.Spokes.{IsSpokeAt, NotesSpoke, end_place, ends_marks}
 use Rattle.strands.specs.Stations.{half}
 use Rattle.strands.specs.declared.spokes.Spoke.{Spoke}
 use Rattle.strands.proofs.hubs.note_ends.Goals as goal
+use Rattle.envelope.proofs.Lined.{same-then}
 
 pub loop-i-init : goal.loop-i-init
 loop-i-init c = record {
@@ -31,7 +32,7 @@ loop-i-preserved c =
     let spokes = c.args.spokes.now in
     let inv = c.loop-i.invariant in
     record {
-      same = fold-then c.args.fold.now c.loop-i.fold c.note_start.new.fold inv.same
+      same = same-then c.args.fold.now c.loop-i.fold c.note_start.new.fold inv.same
           c.note_start.ensures.same;
       stands = λ law w marks h st.
           stands-more law c.note_start.new.fold

@@ -2,12 +2,13 @@ use Rattle.std.proofs.Common.{◌≡◌, ◌+◌, ◌<◌, List, length, take, r
 use Rattle.std.proofs.Common.{arith}
 use Rattle.std.proofs.lemmas.List.{take_all}
 use Rattle.envelope.specs.Folds.{Stands}
-use Rattle.strands.proofs.Nodes.{fold-then, notes-spoke, stands-more, stands-none, stepped-more}
+use Rattle.strands.proofs.Nodes.{notes-spoke, stands-more, stands-none, stepped-more}
 use Rattle.strands.proofs.Nodes.{stepped-none, stepped-read}
 use Rattle.strands.specs.Marks.{Marks, is_between, marked, or_marked}
 use Rattle.strands.specs.Spokes.{IsSpokeLater, NotesSpoke, spoke_front, spokes_marks}
 use Rattle.strands.specs.declared.spokes.Spoke.{Spoke}
 use Rattle.strands.proofs.hubs.step_spokes.Goals as goal
+use Rattle.envelope.proofs.Lined.{same-then}
 
 pub loop-i-init : goal.loop-i-init
 loop-i-init g c =
@@ -64,7 +65,7 @@ loop-i-preserved g c =
       stepped = stepped-more law w s k i olds c.loop-i.spokes.items c.step.new.self inv.stepped b
           (λ d. subst (λ z. IsSpokeLater law w s k z c.step.new.self)
           (read d) c.step.ensures.later);
-      same = fold-then c.args.fold.now c.loop-i.fold c.step.new.fold inv.same
+      same = same-then c.args.fold.now c.loop-i.fold c.step.new.fold inv.same
           c.step.ensures.same_fold;
       stands = λ marks st.
           stands-more law c.step.new.fold f olds i x marks b read

@@ -1,7 +1,8 @@
-use Rattle.std.proofs.Common.{◌≡◌, ◌∙◌, ◌*◌, ◌<◌, refl, sym, length, arith}
+use Rattle.std.proofs.Common.{◌≡◌, ◌∙◌, ◌*◌, refl, sym, length, arith}
 use Rattle.fronts.specs.Stretches.{count_of}
-use Rattle.fronts.proofs.Keeping.{calm-beside, calm-set, in-calm}
+use Rattle.fronts.proofs.Keeping.{in-calm}
 use Rattle.fronts.proofs.stretches.Stretch.set_calm.Goals as goal
+use Rattle.case_model.proofs.Running.{calm-set, calm-beside}
 
 pub returns : goal.returns
 unfolding count_of

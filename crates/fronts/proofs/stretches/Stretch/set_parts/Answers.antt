@@ -1,9 +1,10 @@
-use Rattle.std.proofs.Common.{◌≡◌, ◌∙◌, ◌*◌, ◌<◌, refl, sym, ap, set, length, arith}
+use Rattle.std.proofs.Common.{◌≡◌, ◌∙◌, ◌*◌, refl, sym, ap, set, length, arith}
 use Rattle.case_model.specs.Runs.{calm_at, calm_point}
 use Rattle.fronts.specs.Cavities.{cavity_at, with_cavity}
 use Rattle.fronts.specs.Stretches.{count_of}
-use Rattle.fronts.proofs.Keeping.{calm-beside, calm-set, cavity-beside, cavity-set, in-wild}
+use Rattle.fronts.proofs.Keeping.{cavity-beside, cavity-set, in-wild}
 use Rattle.fronts.proofs.stretches.Stretch.set_parts.Goals as goal
+use Rattle.case_model.proofs.Running.{calm-set, calm-beside}
 
 pub returns : goal.returns
 unfolding count_of

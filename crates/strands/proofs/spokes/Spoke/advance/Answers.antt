@@ -5,10 +5,11 @@ use Rattle.fronts.specs.Fronts.{Raises}
 use Rattle.fronts.specs.Noted.{run_noted}
 use Rattle.fronts.specs.Stretches.{count_of}
 use Rattle.strands.proofs.Marking.{agree-marked, same-split-run, union-marked}
-use Rattle.strands.proofs.Spoking.{low-inside, low-is, places-then, spoke-holds, within-spoke}
+use Rattle.strands.proofs.Spoking.{low-inside, low-is, spoke-holds, within-spoke}
 use Rattle.strands.specs.Marks.{is_between, marked, or_marked}
 use Rattle.strands.specs.Spokes.{end_place, inner_low, run_low}
 use Rattle.strands.proofs.spokes.Spoke.advance.Goals as goal
+use Rattle.fronts.proofs.Keeping.{places-then}
 
 pub returns-clause-advanced : goal.returns-clause-advanced
 returns-clause-advanced g c = λ since front later ra p h.
