@@ -2,5 +2,6 @@ pub mod Bands
 pub mod Cavities
 pub mod Fronts
 pub mod Noted
+pub mod Pairs
 pub mod PointProps
 pub mod Stretches

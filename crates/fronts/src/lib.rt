@@ -5,9 +5,11 @@
 
 mod cavities;
 mod noting;
+mod pairs;
 mod parts;
 mod ranges;
 mod stencil;
 mod stretches;
 
+pub use pairs::Pair;
 pub use stretches::Stretch;

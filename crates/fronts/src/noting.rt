@@ -52,6 +52,7 @@ impl Stretch {
     }
 
     // As `note`, place by place.
+    #[inline(never)]
     fn note_points(&self, fold: &mut Fold, step: u64, low: usize, high: usize)
         requires order { low ≤ high }
         requires inside { high ≤ count_of self.now }

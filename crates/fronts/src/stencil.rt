@@ -100,6 +100,8 @@ impl Stretch {
         raise_spots(law, places, step % 2 == 0, &mut self.spots)
     }
 
+    // Kept out of the way of calm runs.
+    #[inline(never)]
     fn raise_place<L: Law>(&mut self, law: &L, step: u64, place: usize)
         requires on_mesh { IsOnMesh (L.meaning law.now) self.old }
         requires after_first { 0 < place }

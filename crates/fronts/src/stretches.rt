@@ -2,6 +2,7 @@
 ghost use Rattle.std.specs.Prelude.{◌≡◌, ◌*◌, length};
 
 use crate::cavities::Cavity;
+use crate::pairs::Pair;
 use crate::parts::{Parts, apart, are_none, clear};
 use case_model::{Point, Spot};
 use std::alloc::{AllocError, Global};
@@ -29,13 +30,15 @@ pub struct Stretch {
 }
 
 impl Stretch {
-    ghost use Rattle.std.specs.Prelude.{ℕ, ◌<◌, ◌==◌, true, false, Bool, IfOk};
+    ghost use Rattle.std.specs.Prelude.{ℕ, ◌+◌, ◌<◌, ◌==◌, true, false, not, Bool, IfOk};
     ghost use Rattle.case_model.specs.Meaning.{Meaning};
     ghost use Rattle.case_model.specs.Range.{IsPoint};
     ghost use Rattle.case_model.specs.Runs.{calm_point};
     ghost use Rattle.fronts.specs.Cavities.{volume_and_flow, with_cavity};
     ghost use Rattle.fronts.specs.Fronts.{Holds, Puts, spot};
-    ghost use Rattle.fronts.specs.Stretches.{AreSameKept, count_of, is_even, kept, kept_in};
+    ghost use Rattle.fronts.specs.Pairs.{ArePut, first_of, second_of};
+    ghost use Rattle.fronts.specs.Stretches.{AreSameKept, AreSamePlaces, count_of, is_even};
+    ghost use Rattle.fronts.specs.Stretches.{kept, kept_in};
     ghost use Rattle.fronts.specs.Stretches.{point_in, slot as slot_of, IsPut, IsPutIn, IsSet};
     ghost use Rattle.fronts.specs.Stretches.{IsStretchOf};
 
@@ -92,6 +95,57 @@ impl Stretch {
         self.read(self.slot(even, place))
     }
 
+    /// The points of a place that are kept for the parity of a step, and for that of the next one.
+    pub fn pair(&self, step: u64, place: usize) -> Pair
+        requires { place < count_of self.now }
+        ensures first { first_of result ≡ kept self.now step place }
+        ensures second { second_of result ≡ kept self.now (step + 1) place }
+        ensures first_in_range { IsPoint (first_of result) }
+        ensures second_in_range { IsPoint (second_of result) }
+    {
+        self.pair_of(step % 2 == 0, place)
+    }
+
+    // The same, of the even steps first, or of the odd ones.
+    fn pair_of(&self, even: bool, place: usize) -> Pair
+        requires { place < count_of self.now }
+        ensures first { first_of result ≡ kept_in self.now even place }
+        ensures second { second_of result ≡ kept_in self.now (not even) place }
+        ensures first_in_range { IsPoint (first_of result) }
+        ensures second_in_range { IsPoint (second_of result) }
+    {
+        if self.calm {
+            Pair::Calm {
+                first: self.calm_spot(even, place),
+                second: self.calm_spot(!even, place),
+            }
+        } else {
+            Pair::Other {
+                first: self.point_of(even, place),
+                second: self.point_of(!even, place),
+            }
+        }
+    }
+
+    // What a place of a calm stretch keeps for the even steps, or for the odd ones.
+    #[tactic(auto, unfolding(crate::specs::Stretches::count_of, crate::specs::Stretches::kept_in))]
+    fn calm_spot(&self, even: bool, place: usize) -> Spot
+        requires calm { self.now.calm ≡ true }
+        requires inside { place < count_of self.now }
+        ensures { calm_point result ≡ kept_in self.now even place }
+    {
+        self.spot_at(self.slot(even, place))
+    }
+
+    #[tactic(auto, unfolding(crate::specs::Stretches::count_of, crate::specs::Stretches::point_in))]
+    fn spot_at(&self, slot: usize) -> Spot
+        requires calm { self.now.calm ≡ true }
+        requires inside { slot < 2 * count_of self.now }
+        ensures { calm_point result ≡ point_in self.now slot }
+    {
+        self.spots[slot]
+    }
+
     // Where it is kept.
     #[tactic(auto, unfolding(crate::specs::Stretches::count_of))]
     pub(crate) fn slot(&self, even: bool, place: usize) -> usize
@@ -146,6 +200,64 @@ impl Stretch {
             Some(spot) => self.set_spot(slot, spot),
             None => self.set_other(slot, &point),
         }
+    }
+
+    /// Keeps the points of a place for the parity of a step, and for that of the next one.
+    pub fn put_pair(&mut self, step: u64, place: usize, pair: Pair)
+        requires inside { place < count_of self.old }
+        requires first { IsPoint (first_of pair) }
+        requires second { IsPoint (second_of pair) }
+        ensures same { AreSamePlaces self.old self.new }
+        ensures holds { (law : Meaning) (since front middle between sooner later : ℕ → ℕ) →
+            Puts step place (count_of self.old) since front middle between →
+            first_of pair ≡ spot law self.old step place →
+            Puts (step + 1) place (count_of self.old) middle between sooner later →
+            second_of pair ≡ spot law self.old (step + 1) place →
+            Holds law since front self.old → Holds law sooner later self.new }
+    {
+        self.put_both(step % 2 == 0, place, pair);
+    }
+
+    // The same, of the even steps first, or of the odd ones.
+    fn put_both(&mut self, even: bool, place: usize, pair: Pair)
+        requires inside { place < count_of self.old }
+        requires first { IsPoint (first_of pair) }
+        requires second { IsPoint (second_of pair) }
+        ensures { ArePut even place (first_of pair) (second_of pair) self.old self.new }
+    {
+        match pair {
+            Pair::Calm { first, second } => self.put_spots(even, place, first, second),
+            Pair::Other { first, second } => self.put_points(even, place, first, second),
+        }
+    }
+
+    fn put_spots(&mut self, even: bool, place: usize, first: Spot, second: Spot)
+        requires { place < count_of self.old }
+        ensures { ArePut even place (calm_point first) (calm_point second) self.old self.new }
+    {
+        self.put_spot(even, place, first);
+        self.put_spot(!even, place, second);
+    }
+
+    // Points that may have a cavity, or be Bad.
+    #[cold]
+    #[inline(never)]
+    fn put_points(&mut self, even: bool, place: usize, first: Point, second: Point)
+        requires inside { place < count_of self.old }
+        requires first { IsPoint first }
+        requires second { IsPoint second }
+        ensures { ArePut even place first second self.old self.new }
+    {
+        self.put_of(even, place, first);
+        self.put_of(!even, place, second);
+    }
+
+    fn put_spot(&mut self, even: bool, place: usize, spot: Spot)
+        requires { place < count_of self.old }
+        ensures { IsPutIn even place (calm_point spot) self.old self.new }
+    {
+        let slot = self.slot(even, place);
+        self.set_spot(slot, spot);
     }
 
     fn set_spot(&mut self, slot: usize, spot: Spot)

@@ -5,6 +5,7 @@ pub mod Handing
 mod Loading
 mod Marking
 mod Nodes
+mod Pairing
 mod Spoking
 mod Starting
 mod Taking

@@ -63,11 +63,12 @@ fn load_at<B: Block>(
 {
     let step = start + (distance - 1) as u64;
     let number = 2 * (distance - 1);
-    let earlier = block.point(number);
-    stretch.put(step, place, earlier);
     if number + 1 < window {
-        let later = block.point(number + 1);
-        stretch.put(step + 1, place, later);
+        let pair = block.pair(distance - 1);
+        stretch.put_pair(step, place, pair);
+    } else {
+        let last = block.point(number);
+        stretch.put(step, place, last);
     }
 }
 

@@ -57,13 +57,12 @@ fn load_place<B: Block>(
         Holds law ever (loading left n window start (distance + 1) front) stretch.new }
 {
     let step = start + (window - distance) as u64;
-    let earlier = block.point(2 * distance);
     if 2 * distance + 1 < window {
-        let later = block.point(2 * distance + 1);
-        stretch.put(step - 1, place, earlier);
-        stretch.put(step, place, later);
+        let pair = block.pair(distance);
+        stretch.put_pair(step - 1, place, pair);
     } else {
-        stretch.put(step, place, earlier);
+        let last = block.point(2 * distance);
+        stretch.put(step, place, last);
     }
 }
 

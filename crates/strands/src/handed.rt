@@ -1,14 +1,15 @@
 //! Blocks: the points that one strand hands on to another. Those of a strand at rest are read
 //! where they stand, in its stretch.
-ghost use Rattle.std.specs.Prelude.{◌≡◌, ℕ, ◌+◌, ◌-◌, ◌/◌, ◌^◌, ◌<◌, ◌≤◌, if◌then◌else◌};
+ghost use Rattle.std.specs.Prelude.{◌≡◌, ℕ, ◌+◌, ◌-◌, ◌*◌, ◌/◌, ◌^◌, ◌<◌, ◌≤◌, if◌then◌else◌};
 ghost use Rattle.case_model.specs.Range.{IsPoint};
 ghost use Rattle.case_model.specs.declared.points.Point.{Point as PointSeen};
+ghost use Rattle.fronts.specs.Pairs.{first_of, second_of};
 ghost use Rattle.fronts.specs.Stretches.{count_of};
 
 use crate::besides::{place_beside, step_in};
 use crate::blocks::from_end;
 use case_model::Point;
-use fronts::Stretch;
+use fronts::{Pair, Stretch};
 
 /// The points that one strand hands on to another, in order: two at each distance from the
 /// station, the earlier first.
@@ -24,6 +25,23 @@ pub trait Block {
         requires { number < size self.now }
         ensures point { (point : PointSeen) → tells self.now number point → result ≡ point }
         ensures in_range { IsPoint result };
+
+    /// The points of two numbers that stand at one distance from the station.
+    fn pair(&self, index: usize) -> Pair
+        requires there { 2 * index + 1 < size self.now }
+        requires fits { 2 * index + 1 < 2 ^ 64 }
+        ensures first { (point : PointSeen) → tells self.now (2 * index) point →
+            first_of result ≡ point }
+        ensures second { (point : PointSeen) → tells self.now (2 * index + 1) point →
+            second_of result ≡ point }
+        ensures first_in_range { IsPoint (first_of result) }
+        ensures second_in_range { IsPoint (second_of result) }
+    {
+        Pair::Other {
+            first: self.point(2 * index),
+            second: self.point(2 * index + 1),
+        }
+    }
 }
 
 /// The block of a section for the station at its left or its right, over the window of so many
@@ -78,6 +96,12 @@ impl<'a> Block for SectionBlock<'a> {
         let place = from_end(self.left, self.stretch.count() - 1, number / 2 + 1);
         let step = self.start + (number as u64).div_ceil(2);
         self.stretch.point(step, place)
+    }
+
+    #[tactic(auto, unfolding(crate::specs::Blocks::section_tells))]
+    fn pair(&self, index: usize) -> Pair {
+        let place = from_end(self.left, self.stretch.count() - 1, index + 1);
+        self.stretch.pair(self.start + index as u64, place)
     }
 }
 
@@ -139,5 +163,12 @@ impl<'a> Block for StationBlock<'a> {
         let place = place_beside(self.stretch, self.right, self.at, number / 2);
         let step = self.start + step_in(self.window, number) as u64;
         self.stretch.point(step, place)
+    }
+
+    #[tactic(auto, unfolding(crate::specs::Beside::station_tells))]
+    fn pair(&self, index: usize) -> Pair {
+        let place = place_beside(self.stretch, self.right, self.at, index);
+        self.stretch
+            .pair(self.start + (self.window - 1 - index) as u64, place)
     }
 }
