@@ -1,9 +1,9 @@
 -- The first line of a text, and the lines behind it.
-use Rattle.std.proofs.Common.{ℕ, ◌<◌, ◌≡◌, ◌==◌, false, Bool, List, [], ◌∷◌, length, ap, ◌∙◌, refl, arith}
+use Rattle.std.proofs.Common.{ℕ, ◌<◌, ◌≡◌, ◌==◌, false, Bool, List, [], ◌∷◌, length, map, ap, ◌∙◌, refl, arith}
 use Rattle.std.specs.List.{slice_split}
 use Rattle.std.proofs.lemmas.Bool.{ne_eqb}
 use Rattle.std.proofs.lemmas.List.Splits.{length-slice_split}
-use Rattle.case_lines.specs.Texts.{lines_between, text_lines}
+use Rattle.case_lines.specs.Texts.{lines_between, text_lines, fields_of, lines_of}
 
 some_part : (p : ℕ → Bool) (text : List ℕ) → 0 < length (slice_split p text)
 some_part p text = omega (arith, length-slice_split p text)
@@ -27,3 +27,12 @@ unfolding text_lines
 lines_last text line e i h =
     let n : (length line == 0) ≡ false = rw i (ne_eqb (length text) 0 (λ z. absurd (omega arith))) in
     ap lines_between e ∙ rw n refl
+
+-- the fields of the first line stand before those of the lines behind it
+pub fields_more : (text line rest : List ℕ) (fields : List (List ℕ)) → text_lines text ≡ line ∷ text_lines rest → fields ≡ fields_of line → lines_of text ≡ fields ∷ lines_of rest
+unfolding lines_of
+fields_more text line rest fields e f = rw f (ap (map fields_of) e)
+
+pub fields_none : (text : List ℕ) → text_lines text ≡ [] → lines_of text ≡ []
+unfolding lines_of
+fields_none text e = ap (map fields_of) e

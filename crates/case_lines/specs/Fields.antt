@@ -152,9 +152,5 @@ has_count OfWatch n = n == 2
 
 -- whether a line has too many pairs
 unfoldable pub has_too_many : Directive → ℕ → Bool
-has_too_many (OfSingle single) n = false
 has_too_many (OfTable kind) n = nat_lt (2 * most_entries kind + 2) n
-has_too_many (OfNode node) n = false
-has_too_many OfPipe n = false
-has_too_many OfProbe n = false
-has_too_many OfWatch n = false
+has_too_many _ n = false

@@ -4,11 +4,9 @@ use Rattle.std.specs.Prelude.{int_le, int_lt, List, map, length}
 use Rattle.std.specs.List.{list_all, range_with_len}
 use Rattle.std.specs.Ordering.{int_eq}
 use Rattle.case_model.specs.declared.cases.TableKind.{TableKind}
-use Rattle.case_model.specs.declared.cases.TableKind.TheVariants.{Heads, Flows, Openings, Speeds}
 use Rattle.case_model.specs.declared.cases.TableKind.TheVariants.{Curve, Gas}
 use Rattle.case_lines.specs.declared.words.Directive.{Directive}
-use Rattle.case_lines.specs.declared.words.Directive.TheVariants.{OfSingle, OfTable, OfNode, OfPipe}
-use Rattle.case_lines.specs.declared.words.Directive.TheVariants.{OfProbe, OfWatch}
+use Rattle.case_lines.specs.declared.words.Directive.TheVariants.{OfTable}
 use Rattle.case_lines.specs.Quantities.{amount}
 use Rattle.case_lines.specs.Fields.{field, first_quantity, second_quantity}
 
@@ -30,21 +28,14 @@ pairs_of kind fields = map (pair_at kind fields) (range_with_len 0 (pair_count (
 
 -- times, volumes and flows rise from pair to pair, flows of a curve by 1e-6 m3/s at least
 abbrev pub rises : TableKind → ℤ → ℤ → Bool
-rises Heads x y = int_le (x +ℤ pos 1) y
-rises Flows x y = int_le (x +ℤ pos 1) y
-rises Openings x y = int_le (x +ℤ pos 1) y
-rises Speeds x y = int_le (x +ℤ pos 1) y
 rises Curve x y = int_le (x +ℤ pos 1_000) y
-rises Gas x y = int_le (x +ℤ pos 1) y
+rises _ x y = int_le (x +ℤ pos 1) y
 
 -- the rises of a curve and the heads of a gas table fall from pair to pair
 abbrev pub falls : TableKind → ℤ → ℤ → Bool
-falls Heads x y = true
-falls Flows x y = true
-falls Openings x y = true
-falls Speeds x y = true
 falls Curve x y = int_lt y x
 falls Gas x y = int_lt y x
+falls _ x y = true
 
 -- whether a pair may stand behind another
 unfoldable pub may_follow : TableKind → ℤ × ℤ → ℤ × ℤ → Bool
@@ -52,12 +43,8 @@ may_follow kind before next = rises kind before.0 next.0 && falls kind before.1 
 
 -- a curve begins at the flow 0
 abbrev pub may_begin : TableKind → ℤ × ℤ → Bool
-may_begin Heads first = true
-may_begin Flows first = true
-may_begin Openings first = true
-may_begin Speeds first = true
 may_begin Curve first = int_eq first.0 (pos 0)
-may_begin Gas first = true
+may_begin _ first = true
 
 -- whether the first n pairs of a table follow one another
 unfoldable pub follow : TableKind → List (List ℕ) → ℕ → Bool
@@ -72,9 +59,5 @@ is_ordered kind fields =
 
 -- whether a line is a table that is not in order
 unfoldable pub is_disordered : Directive → List (List ℕ) → Bool
-is_disordered (OfSingle single) fields = false
 is_disordered (OfTable kind) fields = not (is_ordered kind fields)
-is_disordered (OfNode node) fields = false
-is_disordered OfPipe fields = false
-is_disordered OfProbe fields = false
-is_disordered OfWatch fields = false
+is_disordered _ fields = false

@@ -1,6 +1,6 @@
 -- The lines of a case text, and the fields of a line.
 use Rattle.std.specs.Prelude.{ℕ, ◌-◌, ◌==◌, ◌||◌, nat_lt, Bool, if◌then◌else◌, List, [], ◌∷◌}
-use Rattle.std.specs.Prelude.{length, take, filter, slice_index_or}
+use Rattle.std.specs.Prelude.{length, take, filter, map, slice_index_or}
 use Rattle.std.specs.List.{slice_split, before_first}
 
 -- the lines among the parts between line ends: an empty part behind the last line end is no line
@@ -36,3 +36,7 @@ parts_of text = filter is_some (slice_split is_blank text)
 -- the fields of a line: a carriage return at its end counts nowhere, nor does its comment
 unfoldable pub fields_of : List ℕ → List (List ℕ)
 fields_of line = parts_of (without_comment (without_return line))
+
+-- the fields of each line of a text
+unfoldable pub lines_of : List ℕ → List (List (List ℕ))
+lines_of bytes = map fields_of (text_lines bytes)

@@ -78,21 +78,12 @@ directive_of word = single_or_other (single_of word) word
 
 -- whether a version of the case text has a directive: version 1 has none on friction
 abbrev pub has_single : ℕ → Single → Bool
-has_single version Step = true
-has_single version Steps = true
-has_single version Vapour = true
-has_single version Weight = true
-has_single version Tolerance = true
-has_single version Every = true
 has_single version FrictionForm = not (version == 1)
+has_single version _ = true
 
 abbrev pub has_directive : ℕ → Directive → Bool
 has_directive version (OfSingle single) = has_single version single
-has_directive version (OfTable kind) = true
-has_directive version (OfNode node) = true
-has_directive version OfPipe = true
-has_directive version OfProbe = true
-has_directive version OfWatch = true
+has_directive version _ = true
 
 -- a directive where a version of the case text has it
 abbrev pub directive_in : ℕ → Option Directive → Option Directive

@@ -12,7 +12,7 @@ use std::alloc::{AllocError, Global};
 
 /// The first line of a text without its line end, and the text behind that line; `None` where the
 /// text has no line.
-pub fn cut_line(text: &[u8]) -> Option<(&[u8], &[u8])>
+pub(crate) fn cut_line(text: &[u8]) -> Option<(&[u8], &[u8])>
     ensures { MatchOption result
         (text_lines text.now ≡ [])
         (λ r. (text_lines text.now ≡ r.0.now ∷ text_lines r.1.now)
@@ -30,7 +30,7 @@ pub fn cut_line(text: &[u8]) -> Option<(&[u8], &[u8])>
 
 /// The fields of a line. Fails only for want of memory.
 #[tactic(auto, unfolding(crate::specs::Texts::fields_of))]
-pub fn fields_of(alloc: Global, line: &[u8]) -> Result<Vec<&[u8]>, AllocError>
+pub(crate) fn fields_of(alloc: Global, line: &[u8]) -> Result<Vec<&[u8]>, AllocError>
     ensures { IfOk result (λ found. map (λ f. f.now) found.items ≡ fields line.now) }
 {
     parts_of(alloc, without_comment(without_return(line)))

@@ -10,28 +10,26 @@ ghost use Rattle.case_lines.specs.Alone.{breaks_counted, breaks_known, breaks_al
 use crate::amounts::{is_outside, is_spelt, quantity_in};
 use crate::counts::{has_count, has_too_many};
 use crate::fields::{FieldKind, field_kind};
+use crate::lines::Line;
 use crate::order::is_disordered;
 use crate::quantities::{Quantity, limits};
 use crate::spelling::{field, is_heading, is_marked, is_name, is_reference};
-use crate::words::{Directive, directive_in, directive_of, friction_of};
+use crate::words::{Directive, directive_in, friction_of};
 
-/// The least rule that a line breaks by itself, by the version of the text, its number in the text
-/// and its fields: 1 first line, 2 unknown word, 3 count of fields, 4 spelling, 5 number out of
-/// limits, 10 too many or too long, 14 table order. `None` where it breaks none.
+/// The least rule that a line breaks by itself, by the version of the text and its number in the
+/// text: 1 first line, 2 unknown word, 3 count of fields, 4 spelling, 5 number out of limits, 10
+/// too many or too long, 14 table order. `None` where it breaks none.
 #[tactic(auto, unfolding(crate::specs::Alone::breaks_alone))]
-pub fn judge_line(version: u8, line: u64, fields: &[&[u8]]) -> Option<u8>
-    ensures { FindsLeast (breaks_alone version line (map (λ f. f.now) fields.now)) result }
+pub fn judge_line(version: u8, number: u64, line: &Line) -> Option<u8>
+    ensures { FindsLeast (breaks_alone version number line.now) result }
 {
-    if line == 1 {
-        return judge_heading(fields);
+    if number == 1 {
+        return judge_heading(line.fields());
     }
-    if fields.is_empty() {
+    if line.count() == 0 {
         return None;
     }
-    judge_known(
-        directive_in(version, directive_of(field(fields, 0))),
-        fields,
-    )
+    judge_known(directive_in(version, line.directive()), line.fields())
 }
 
 fn judge_heading(fields: &[&[u8]]) -> Option<u8>

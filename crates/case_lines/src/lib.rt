@@ -7,6 +7,7 @@ mod counts;
 mod cutting;
 mod fields;
 mod judging;
+mod lines;
 mod order;
 mod quantities;
 mod spelling;
@@ -14,9 +15,9 @@ mod words;
 
 pub use amounts::{amount, quantity_in};
 pub use counts::{has_count, has_too_many};
-pub use cutting::{cut_line, fields_of};
 pub use fields::{FieldKind, field_kind, first_quantity, second_quantity};
 pub use judging::{judge_line, lesser};
+pub use lines::{Line, line_of, next_line};
 pub use order::{is_ordered, pair_at};
 pub use quantities::{NumberLimits, Quantity, limits};
 pub use spelling::{field, heading_version, is_marked, referred};

@@ -67,12 +67,8 @@ fn rises(kind: TableKind, x: i64, y: i64) -> bool
     ensures { result ≡ may_rise kind x y }
 {
     match kind {
-        TableKind::Heads => x + 1 <= y,
-        TableKind::Flows => x + 1 <= y,
-        TableKind::Openings => x + 1 <= y,
-        TableKind::Speeds => x + 1 <= y,
         TableKind::Curve => x + 1_000 <= y,
-        TableKind::Gas => x + 1 <= y,
+        _ => x + 1 <= y,
     }
 }
 
@@ -80,12 +76,9 @@ fn falls(kind: TableKind, x: i64, y: i64) -> bool
     ensures { result ≡ may_fall kind x y }
 {
     match kind {
-        TableKind::Heads => true,
-        TableKind::Flows => true,
-        TableKind::Openings => true,
-        TableKind::Speeds => true,
         TableKind::Curve => y < x,
         TableKind::Gas => y < x,
+        _ => true,
     }
 }
 
@@ -93,12 +86,8 @@ fn may_begin(kind: TableKind, first: (i64, i64)) -> bool
     ensures { result ≡ may_stand_first kind first }
 {
     match kind {
-        TableKind::Heads => true,
-        TableKind::Flows => true,
-        TableKind::Openings => true,
-        TableKind::Speeds => true,
         TableKind::Curve => first.0 == 0,
-        TableKind::Gas => true,
+        _ => true,
     }
 }
 
@@ -110,10 +99,6 @@ pub(crate) fn is_disordered(directive: Directive, fields: &[&[u8]]) -> bool
 {
     match directive {
         Directive::OfTable(kind) => !is_ordered(kind, fields),
-        Directive::OfSingle(_) => false,
-        Directive::OfNode(_) => false,
-        Directive::OfPipe => false,
-        Directive::OfProbe => false,
-        Directive::OfWatch => false,
+        _ => false,
     }
 }

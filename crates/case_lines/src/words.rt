@@ -179,11 +179,7 @@ fn has_directive(version: u8, directive: Directive) -> bool
 {
     match directive {
         Directive::OfSingle(single) => has_single(version, single),
-        Directive::OfTable(_) => true,
-        Directive::OfNode(_) => true,
-        Directive::OfPipe => true,
-        Directive::OfProbe => true,
-        Directive::OfWatch => true,
+        _ => true,
     }
 }
 
@@ -191,13 +187,8 @@ fn has_single(version: u8, single: Single) -> bool
     ensures { result ≡ has_single version single }
 {
     match single {
-        Single::Step => true,
-        Single::Steps => true,
-        Single::Vapour => true,
-        Single::Weight => true,
-        Single::Tolerance => true,
-        Single::Every => true,
         Single::FrictionForm => version != 1,
+        _ => true,
     }
 }
 

@@ -1,6 +1,8 @@
 pub mod Adding
+pub mod Earlier
 pub mod LinesRead
 pub mod Ranges
-pub mod Rest
 pub mod Rules
+pub mod SinglesKept
+pub mod SingleWords
 pub mod Tallied

@@ -2,9 +2,7 @@
 use Rattle.std.proofs.Common.{ℕ, zero, suc, ◌+◌, ◌-◌, ◌<◌, ◌≤◌, ◌≡◌, ◌⊎◌, inl, inr, ◌==◌, ◌&&◌, ◌||◌, true, false, nat_lt, nat_le, Bool, IsTrue, Some, None, List, [], ◌∷◌, ◌++◌, length, take, drop, ap, subst, sym, ◌∙◌, refl, arith, add-one, lt-ltb}
 use Rattle.std.proofs.lemmas.Bool.{ne_eqb, le-leb}
 use Rattle.std.proofs.lemmas.Bool.Decides.{nat_tests}
-use Rattle.std.proofs.lemmas.List.Folds.{list_any-append}
 use Rattle.std.proofs.Math.Bool.{or-false}
-use Rattle.std.specs.List.{list_any}
 use Rattle.case_model.specs.Sets.{FindsLeast, IsEmpty, IsLeast}
 use Rattle.case_rules.specs.Said.{line_at}
 use Rattle.case_rules.specs.Among.{breaks_line, line_rules}
@@ -98,16 +96,3 @@ pub some_line : (all : List (List (List ℕ))) (k : ℕ) → drop k all ≡ [] �
 some_line [] k e z = refl
 some_line (x ∷ all) zero e z = absurd (cc)
 some_line (x ∷ all) (suc k) e z = absurd (omega arith)
-
-or_swap : (a b : Bool) → (a || b) ≡ (b || (a || false))
-or_swap true true = refl
-or_swap true false = refl
-or_swap false true = refl
-or_swap false false = refl
-
--- one more line among those of which a set knows
-pub any_more : (test : List (List ℕ) → Bool) (all : List (List (List ℕ))) (k : ℕ) (fields : List (List ℕ)) (others : List (List (List ℕ))) (before after : Bool) → IsNext all k fields others
-    → before ≡ list_any test (take k all) → after ≡ (test fields || before) → after ≡ list_any test (take (k + 1) all)
-any_more test all k fields others before after i b a =
-    let m = i.more in
-    rw (a, b, m, list_any-append test (take k all) (fields ∷ [])) (or_swap (test fields) (list_any test (take k all)))

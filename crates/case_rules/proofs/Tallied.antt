@@ -1,68 +1,152 @@
--- A tally of the lines of a text, and what it says of the rules on counts.
-use Rattle.std.proofs.Common.{ℕ, ◌+◌, ◌-◌, ◌<◌, ◌≤◌, ◌≡◌, ◌⊎◌, ◌==◌, ◌&&◌, ◌||◌, not, nat_lt, Bool, true, false, IsTrue, Option, List, [], ◌∷◌, codes, ap, sym, ◌∙◌, refl, arith}
-use Rattle.std.proofs.Math.Bool.{or-false, or_assoc}
+-- What a tally knows, line by line and at the end, and what it says of the rules on counts.
+use Rattle.std.proofs.Common.{ℕ, ◌+◌, ◌<◌, ◌≤◌, ◌≡◌, ◌⊎◌, ◌==◌, ◌&&◌, ◌||◌, nat_lt, Bool, true, false, cond, IsTrue, Option, Some, None, List, [], ◌∷◌, length, sym, ◌∙◌, refl, arith}
+use Rattle.std.proofs.Math.Bool.{or-false}
 use Rattle.std.specs.List.{list_any}
+use Rattle.std.specs.HashMap.{get}
+use Rattle.std.specs.HashSet.{contains}
+use Rattle.std.specs.Str.{bytes_eq}
 use Rattle.std.proofs.lemmas.List.Sums.{sum_by-cons}
 use Rattle.case_model.specs.Sets.{IsEmpty, IsLeast}
+use Rattle.case_lines.specs.declared.words.Single.TheVariants.{Step, Steps}
 use Rattle.case_lines.specs.declared.words.Directive.{Directive}
-use Rattle.case_rules.specs.declared.counting.Tally.{Tally}
-use Rattle.case_rules.specs.Said.{said, is_single_of}
+use Rattle.case_lines.specs.Fields.{field}
+use Rattle.case_rules.specs.declared.tally.Counts.{Counts}
+use Rattle.case_rules.specs.declared.tally.Tally.{Tally}
+use Rattle.case_rules.specs.Said.{version_of, said, defines_part}
 use Rattle.case_rules.specs.Counts.{is_table, is_node, is_pipe, is_sampled, count_of, is_incomplete, is_too_large, count_rules}
-use Rattle.case_rules.specs.Tallies.{one_if, nothing, counted, tally_of, IsFew}
-
-one_more : (b : Bool) (n m : ℕ) → n + one_if b + m ≡ n + (one_if b + m)
-one_more b n m = omega arith
+use Rattle.case_rules.specs.Known.{same_bytes, same_key, or_first, or_index, one_if, is_every, is_named, names_such, index_from, single_here, single_from, given_at, lacks_single}
+use Rattle.case_rules.specs.Tallies.{nothing, counted, IsFew, IsTally, IsAdded, IsTallied}
+use Rattle.case_rules.proofs.SinglesKept.{or_none, some_single}
 
 pub count_more : (p : Option Directive → Bool) (fields : List (List ℕ)) (lines : List (List (List ℕ))) → count_of p (fields ∷ lines) ≡ one_if (p (said fields)) + count_of p lines
 unfolding count_of
 count_more p fields lines = sum_by-cons (λ f. one_if (p (said f))) fields lines
 
-count_none : (p : Option Directive → Bool) (n : ℕ) → n ≡ n + count_of p []
+count_none : (p : Option Directive → Bool) (n m : ℕ) → n + count_of p [] ≡ m → n ≡ m
 unfolding count_of
-count_none p n = omega arith
+count_none p n m h = omega (arith, h)
 
--- the counts that a tally of lines gives
-tables_are : (t : Tally) (lines : List (List (List ℕ))) → (tally_of t lines).tables ≡ t.tables + count_of is_table lines
+count_step : (p : Option Directive → Bool) (fields : List (List ℕ)) (lines : List (List (List ℕ))) (n m all : ℕ) → m ≡ n + one_if (p (said fields)) → n + count_of p (fields ∷ lines) ≡ all → m + count_of p lines ≡ all
+count_step p fields lines n m all e h = omega (arith, e, h, count_more p fields lines)
+
+moved : (old : Option ℕ) (b : Bool) (n : ℕ) (later : Option ℕ) → or_first (or_index old b n) later ≡ or_first old (cond b (Some n) later)
+moved (Some x) b n later = refl
+moved None true n later = refl
+moved None false n later = refl
+
+index_step : (counts : Option Directive → Bool) (test : List (List ℕ) → Bool) (n m : ℕ) (fields : List (List ℕ)) (rest : List (List (List ℕ))) (old new all : Option ℕ) → new ≡ or_index old (test fields) n → m ≡ n + one_if (counts (said fields))
+    → or_first old (index_from counts test n (fields ∷ rest)) ≡ all → or_first new (index_from counts test m rest) ≡ all
+index_step counts test n m fields rest old new all e k h = rw (e, k) (moved old (test fields) n (index_from counts test (n + one_if (counts (said fields))) rest) ∙ h)
+
+or_more : {X : Type 0} (a b c : Option X) → or_first (or_first a b) c ≡ or_first a (or_first b c)
+or_more None b c = refl
+or_more (Some x) b c = refl
+
+or_moved : (a b c : Bool) → ((b || a) || c) ≡ (a || (b || c))
+or_moved true true c = refl
+or_moved true false c = refl
+or_moved false true c = refl
+or_moved false false c = refl
+
+counts_more : (c : Counts) (directive : Option Directive) → ((counted c directive).lines ≡ c.lines + 1) × ((counted c directive).tables ≡ c.tables + one_if (is_table directive)) × ((counted c directive).nodes ≡ c.nodes + one_if (is_node directive))
+    × ((counted c directive).pipes ≡ c.pipes + one_if (is_pipe directive)) × ((counted c directive).probes ≡ c.probes + one_if (is_sampled directive))
 unfolding counted
-tables_are t [] = count_none is_table t.tables
-tables_are t (fields ∷ lines) = tables_are (counted t fields) lines ∙ one_more (is_table (said fields)) t.tables (count_of is_table lines) ∙ sym (ap (λ n. t.tables + n) (count_more is_table fields lines))
+counts_more c directive = (refl, refl, refl, refl, refl)
 
-nodes_are : (t : Tally) (lines : List (List (List ℕ))) → (tally_of t lines).nodes ≡ t.nodes + count_of is_node lines
+-- no line is read
+pub tallied_none : (t : Tally) (all : List (List (List ℕ))) → t.version ≡ version_of all → t.counts ≡ nothing → t.kinds.keys ≡ [] → t.names.entries ≡ [] → t.tables.entries ≡ [] → t.nodes.entries ≡ [] → t.pipes.entries ≡ [] → t.singles.items ≡ [] → IsTallied t all all
+tallied_none t all version counts kinds names tables nodes pipes singles = record {
+  version = version;
+  kinds = λ part name. rw kinds refl;
+  names = λ name. rw (names, counts) refl;
+  tables = λ name. rw (tables, counts) refl;
+  nodes = λ name. rw (nodes, counts) refl;
+  pipes = λ name. rw (pipes, counts) refl;
+  singles = λ s. rw (singles, counts) refl;
+  table_count = rw counts (omega arith);
+  node_count = rw counts (omega arith);
+  pipe_count = rw counts (omega arith);
+  probe_count = rw counts (omega arith);
+}
+
+-- one more line is read
+pub tallied_more : (t u : Tally) (fields : List (List ℕ)) (rest all : List (List (List ℕ))) → IsAdded t u fields → IsTallied t (fields ∷ rest) all → IsTallied u rest all
+tallied_more t u fields rest all a h =
+    let m = counts_more t.counts (said fields) in
+    let c = a.counts in
+    let lines : u.counts.lines ≡ t.counts.lines + 1 = rw c m.0 in
+    let tables : u.counts.tables ≡ t.counts.tables + one_if (is_table (said fields)) = rw c m.1 in
+    let nodes : u.counts.nodes ≡ t.counts.nodes + one_if (is_node (said fields)) = rw c m.2 in
+    let pipes : u.counts.pipes ≡ t.counts.pipes + one_if (is_pipe (said fields)) = rw c m.3 in
+    let probes : u.counts.probes ≡ t.counts.probes + one_if (is_sampled (said fields)) = rw c m.4 in
+    record {
+      version = a.version ∙ h.version;
+      kinds = λ part name. rw (a.kinds part name) (or_moved (contains same_key t.kinds (part, name)) (defines_part part name.now fields) (list_any (defines_part part name.now) rest) ∙ h.kinds part name);
+      names = λ name. index_step is_every (names_such is_named name.now) t.counts.lines u.counts.lines fields rest (get same_bytes t.names name) (get same_bytes u.names name) _ (a.names name) lines (h.names name);
+      tables = λ name. index_step is_table (names_such is_table name.now) t.counts.tables u.counts.tables fields rest (get same_bytes t.tables name) (get same_bytes u.tables name) _ (a.tables name) tables (h.tables name);
+      nodes = λ name. index_step is_node (names_such is_node name.now) t.counts.nodes u.counts.nodes fields rest (get same_bytes t.nodes name) (get same_bytes u.nodes name) _ (a.nodes name) nodes (h.nodes name);
+      pipes = λ name. index_step is_pipe (names_such is_pipe name.now) t.counts.pipes u.counts.pipes fields rest (get same_bytes t.pipes name) (get same_bytes u.pipes name) _ (a.pipes name) pipes (h.pipes name);
+      singles = λ s. rw (a.singles s, lines) (or_more (given_at t.singles.items s) (single_here s t.counts.lines fields) (single_from s (t.counts.lines + 1) rest) ∙ h.singles s);
+      table_count = count_step is_table fields rest t.counts.tables u.counts.tables _ tables h.table_count;
+      node_count = count_step is_node fields rest t.counts.nodes u.counts.nodes _ nodes h.node_count;
+      pipe_count = count_step is_pipe fields rest t.counts.pipes u.counts.pipes _ pipes h.pipe_count;
+      probe_count = count_step is_sampled fields rest t.counts.probes u.counts.probes _ probes h.probe_count;
+    }
+
+-- all lines are read
+pub tallied_all : (t : Tally) (all : List (List (List ℕ))) → IsTallied t [] all → IsTally t all
+tallied_all t all h = record {
+  version = h.version;
+  kinds = λ part name. sym (or-false (contains same_key t.kinds (part, name))) ∙ h.kinds part name;
+  names = λ name. sym (or_none (get same_bytes t.names name)) ∙ h.names name;
+  tables = λ name. sym (or_none (get same_bytes t.tables name)) ∙ h.tables name;
+  nodes = λ name. sym (or_none (get same_bytes t.nodes name)) ∙ h.nodes name;
+  pipes = λ name. sym (or_none (get same_bytes t.pipes name)) ∙ h.pipes name;
+  singles = λ s. sym (or_none (given_at t.singles.items s)) ∙ h.singles s;
+  table_count = count_none is_table _ _ h.table_count;
+  node_count = count_none is_node _ _ h.node_count;
+  pipe_count = count_none is_pipe _ _ h.pipe_count;
+  probe_count = count_none is_sampled _ _ h.probe_count;
+}
+
+one_le : (b : Bool) → one_if b ≤ 1
+one_le true = omega arith
+one_le false = omega arith
+
+-- the counts stay below the count of lines
+few_more : (most : ℕ) (c : Counts) (directive : Option Directive) → IsFew most c → IsFew (most + 1) (counted c directive)
+few_more most c directive f =
+    let m = counts_more c directive in
+    record {
+      lines = omega (arith, m.0, f.lines);
+      tables = omega (arith, m.1, f.tables, one_le (is_table directive));
+      nodes = omega (arith, m.2, f.nodes, one_le (is_node directive));
+      pipes = omega (arith, m.3, f.pipes, one_le (is_pipe directive));
+      probes = omega (arith, m.4, f.probes, one_le (is_sampled directive));
+    }
+
+-- the counts after one more line
+pub few_next : (c u : Counts) (directive : Option Directive) → u ≡ counted c directive → IsFew c.lines c → IsFew u.lines u
 unfolding counted
-nodes_are t [] = count_none is_node t.nodes
-nodes_are t (fields ∷ lines) = nodes_are (counted t fields) lines ∙ one_more (is_node (said fields)) t.nodes (count_of is_node lines) ∙ sym (ap (λ n. t.nodes + n) (count_more is_node fields lines))
+few_next c u directive e f = rw e (few_more c.lines c directive f)
 
-pipes_are : (t : Tally) (lines : List (List (List ℕ))) → (tally_of t lines).pipes ≡ t.pipes + count_of is_pipe lines
-unfolding counted
-pipes_are t [] = count_none is_pipe t.pipes
-pipes_are t (fields ∷ lines) = pipes_are (counted t fields) lines ∙ one_more (is_pipe (said fields)) t.pipes (count_of is_pipe lines) ∙ sym (ap (λ n. t.pipes + n) (count_more is_pipe fields lines))
+pub lines_next : (c u : Counts) (directive : Option Directive) → u ≡ counted c directive → u.lines ≡ c.lines + 1
+lines_next c u directive e = rw e (counts_more c directive).0
 
-probes_are : (t : Tally) (lines : List (List (List ℕ))) → (tally_of t lines).probes ≡ t.probes + count_of is_sampled lines
-unfolding counted
-probes_are t [] = count_none is_sampled t.probes
-probes_are t (fields ∷ lines) = probes_are (counted t fields) lines ∙ one_more (is_sampled (said fields)) t.probes (count_of is_sampled lines) ∙ sym (ap (λ n. t.probes + n) (count_more is_sampled fields lines))
+-- a name that a line defines, by its directive
+pub name_added : (is_such : Option Directive → Bool) (b : Bool) (o : Option Directive) (fields : List (List ℕ)) (name : List ℕ) (old new : Option ℕ) (index : ℕ) → b ≡ is_such o → o ≡ said fields
+    → new ≡ or_index old (b && nat_lt 1 (length fields) && bytes_eq (field fields 1) name) index → new ≡ or_index old (names_such is_such name fields) index
+unfolding names_such
+name_added is_such b o fields name old new index e k h = rw (← k, ← e) h
 
-step_is : (t : Tally) (lines : List (List (List ℕ))) → (tally_of t lines).has_step ≡ (t.has_step || list_any (is_single_of (codes "step")) lines)
-unfolding counted
-step_is t [] = sym (or-false t.has_step)
-step_is t (fields ∷ lines) = step_is (counted t fields) lines ∙ or_assoc t.has_step (is_single_of (codes "step") fields) (list_any (is_single_of (codes "step")) lines)
-
-steps_is : (t : Tally) (lines : List (List (List ℕ))) → (tally_of t lines).has_steps ≡ (t.has_steps || list_any (is_single_of (codes "steps")) lines)
-unfolding counted
-steps_is t [] = sym (or-false t.has_steps)
-steps_is t (fields ∷ lines) = steps_is (counted t fields) lines ∙ or_assoc t.has_steps (is_single_of (codes "steps") fields) (list_any (is_single_of (codes "steps")) lines)
-
-zero_more : (n : ℕ) → 0 + n ≡ n
-zero_more n = omega arith
-
--- the tests of a tally are those of the lines
-pub incomplete_is : (lines : List (List (List ℕ))) → is_incomplete lines ≡ (not (tally_of nothing lines).has_step || not (tally_of nothing lines).has_steps || ((tally_of nothing lines).pipes == 0))
+-- the tests of a tally are those of its lines
+pub incomplete_is : (t : Tally) (lines : List (List (List ℕ))) → IsTally t lines → is_incomplete lines ≡ (lacks_single t.singles.items Step || lacks_single t.singles.items Steps || (t.counts.pipes == 0))
 unfolding is_incomplete
-incomplete_is lines = rw (step_is nothing lines, steps_is nothing lines, pipes_are nothing lines, zero_more (count_of is_pipe lines)) refl
+incomplete_is t lines h = rw (h.singles Step, h.singles Steps, h.pipe_count, some_single Step 0 lines, some_single Steps 0 lines) refl
 
-pub too_large_is : (lines : List (List (List ℕ))) → is_too_large lines ≡ (nat_lt 1_024 (tally_of nothing lines).tables || nat_lt 4_096 (tally_of nothing lines).nodes || nat_lt 4_096 (tally_of nothing lines).pipes || nat_lt 256 (tally_of nothing lines).probes)
+pub too_large_is : (t : Tally) (lines : List (List (List ℕ))) → IsTally t lines → is_too_large lines ≡ (nat_lt 1_024 t.counts.tables || nat_lt 4_096 t.counts.nodes || nat_lt 4_096 t.counts.pipes || nat_lt 256 t.counts.probes)
 unfolding is_too_large
-too_large_is lines = rw (tables_are nothing lines, nodes_are nothing lines, pipes_are nothing lines, probes_are nothing lines, zero_more (count_of is_table lines), zero_more (count_of is_node lines), zero_more (count_of is_pipe lines), zero_more (count_of is_sampled lines)) refl
+too_large_is t lines h = rw (h.table_count, h.node_count, h.pipe_count, h.probe_count) refl
 
 -- the refusals on counts
 on_zero : (a b : Bool) (l n : ℕ) → IsTrue ((l == 0) && (((n == 8) && a) || ((n == 10) && b))) → (l ≡ 0) × (((n ≡ 8) × (a ≡ true)) ⊎ ((n ≡ 10) × (b ≡ true)))
@@ -85,7 +169,3 @@ too_large_least lines e f = record { broken = rw f refl; least = λ l n h. grind
 pub counts_kept : (lines : List (List (List ℕ))) → is_incomplete lines ≡ false → is_too_large lines ≡ false → IsEmpty (count_rules lines)
 unfolding count_rules
 counts_kept lines e f = λ l n h. grind (arith, on_zero (is_incomplete lines) (is_too_large lines) l n h)
-
--- one more line is behind the text
-pub few_more : (m n : ℕ) (t u : Tally) → n < m → u.tables ≤ t.tables + 1 → u.nodes ≤ t.nodes + 1 → u.pipes ≤ t.pipes + 1 → u.probes ≤ t.probes + 1 → (k : ℕ) → m ≤ k → IsFew (k - m) t → IsFew (k - n) u
-few_more m n t u h a b c d k w f = record { tables = omega (arith, f.tables); nodes = omega (arith, f.nodes); pipes = omega (arith, f.pipes); probes = omega (arith, f.probes) }

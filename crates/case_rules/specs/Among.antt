@@ -6,15 +6,14 @@ use Rattle.std.specs.List.{list_any, range_with_len}
 use Rattle.case_model.specs.Sets.{Rules}
 use Rattle.case_lines.specs.declared.words.Directive.{Directive}
 use Rattle.case_lines.specs.declared.fields.FieldKind.{FieldKind}
-use Rattle.case_lines.specs.declared.fields.FieldKind.TheVariants.{NewName, NodeName, PipeName}
-use Rattle.case_lines.specs.declared.fields.FieldKind.TheVariants.{Reference, Number, Value}
-use Rattle.case_lines.specs.declared.fields.FieldKind.TheVariants.{FrictionWord}
+use Rattle.case_lines.specs.declared.fields.FieldKind.TheVariants.{NodeName, PipeName}
+use Rattle.case_lines.specs.declared.fields.FieldKind.TheVariants.{Reference, Value}
 use Rattle.case_lines.specs.Fields.{field, is_marked, referred, field_kind, has_count}
 use Rattle.case_lines.specs.Words.{directive_in}
 use Rattle.case_lines.specs.Alone.{breaks_alone}
-use Rattle.case_rules.specs.declared.parts.Part.TheVariants.{ATable, ANode, APipe}
+use Rattle.case_rules.specs.declared.parts.Part.TheVariants.{ANode, APipe}
 use Rattle.case_rules.specs.Said.{line_at, version_of, said, is_definition, defines, defines_part}
-use Rattle.case_rules.specs.Said.{is_single, is_single_of}
+use Rattle.case_rules.specs.Said.{table_part, is_single, is_single_of}
 
 -- the directive of a line in the version of all lines
 abbrev pub directive_among : List (List (List ℕ)) → List (List ℕ) → Option Directive
@@ -22,15 +21,13 @@ directive_among all fields = directive_in (version_of all) (said fields)
 
 -- whether a field uses a name that none of these lines defines in the kind that is wanted
 unfoldable pub is_unknown : List (List (List ℕ)) → FieldKind → List ℕ → Bool
-is_unknown lines NewName text = false
 is_unknown lines NodeName text = not (list_any (defines_part ANode text) lines)
 is_unknown lines PipeName text = not (list_any (defines_part APipe text) lines)
 is_unknown lines (Reference kind) text =
-    not (list_any (defines_part (ATable kind) (referred text)) lines)
-is_unknown lines (Number quantity) text = false
+    not (list_any (defines_part (table_part kind) (referred text)) lines)
 is_unknown lines (Value quantity kind) text =
-    is_marked text && not (list_any (defines_part (ATable kind) (referred text)) lines)
-is_unknown lines FrictionWord text = false
+    is_marked text && not (list_any (defines_part (table_part kind) (referred text)) lines)
+is_unknown lines _ text = false
 
 -- whether one of the first n fields behind the word does so
 unfoldable pub uses_unknown : List (List (List ℕ)) → Directive → List (List ℕ) → ℕ → Bool

@@ -1,49 +1,30 @@
 -- The second pass: 8 directive missing, 10 too many parts, both on line 0.
 use Rattle.std.specs.Prelude.{ℕ, ◌==◌, ◌&&◌, ◌||◌, not, nat_lt, Bool, true, false, Option, Some}
-use Rattle.std.specs.Prelude.{None, List, codes, count_by}
+use Rattle.std.specs.Prelude.{List, codes, count_by}
 use Rattle.std.specs.List.{list_any}
 use Rattle.case_model.specs.Sets.{Rules}
 use Rattle.case_lines.specs.declared.words.Directive.{Directive}
-use Rattle.case_lines.specs.declared.words.Directive.TheVariants.{OfSingle, OfTable, OfNode, OfPipe}
+use Rattle.case_lines.specs.declared.words.Directive.TheVariants.{OfTable, OfNode, OfPipe}
 use Rattle.case_lines.specs.declared.words.Directive.TheVariants.{OfProbe, OfWatch}
 use Rattle.case_rules.specs.Said.{said, is_single_of}
 
 -- whether a directive is a table, a node, a pipe, or a probe or watch
 abbrev pub is_table : Option Directive → Bool
-is_table None = false
-is_table (Some (OfSingle single)) = false
 is_table (Some (OfTable kind)) = true
-is_table (Some (OfNode node)) = false
-is_table (Some OfPipe) = false
-is_table (Some OfProbe) = false
-is_table (Some OfWatch) = false
+is_table _ = false
 
 abbrev pub is_node : Option Directive → Bool
-is_node None = false
-is_node (Some (OfSingle single)) = false
-is_node (Some (OfTable kind)) = false
 is_node (Some (OfNode node)) = true
-is_node (Some OfPipe) = false
-is_node (Some OfProbe) = false
-is_node (Some OfWatch) = false
+is_node _ = false
 
 abbrev pub is_pipe : Option Directive → Bool
-is_pipe None = false
-is_pipe (Some (OfSingle single)) = false
-is_pipe (Some (OfTable kind)) = false
-is_pipe (Some (OfNode node)) = false
 is_pipe (Some OfPipe) = true
-is_pipe (Some OfProbe) = false
-is_pipe (Some OfWatch) = false
+is_pipe _ = false
 
 abbrev pub is_sampled : Option Directive → Bool
-is_sampled None = false
-is_sampled (Some (OfSingle single)) = false
-is_sampled (Some (OfTable kind)) = false
-is_sampled (Some (OfNode node)) = false
-is_sampled (Some OfPipe) = false
 is_sampled (Some OfProbe) = true
 is_sampled (Some OfWatch) = true
+is_sampled _ = false
 
 -- how many lines have such a directive
 unfoldable pub count_of : (Option Directive → Bool) → List (List (List ℕ)) → ℕ

@@ -4,12 +4,13 @@
 
 mod counting;
 mod judging;
-mod lines;
-mod names;
 mod parts;
 mod reading;
+mod singles;
+mod sorts;
+mod tally;
 
 pub use counting::judge_counts;
-pub use lines::{next_line, text_version};
-pub use parts::{Part, is_single_of, named_by, part_number, said};
+pub use parts::{Part, said};
 pub use reading::judge_lines;
+pub use tally::{Tally, tally_lines};

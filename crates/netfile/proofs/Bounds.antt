@@ -29,7 +29,7 @@ use Rattle.case_lines.specs.Alone.{breaks_name, breaks_reference, breaks_number,
 use Rattle.case_rules.specs.Said.{line_at, version_of, said, is_definition, defines, is_single, is_single_of}
 use Rattle.case_rules.specs.Among.{directive_among, uses_unknown, breaks_counted as breaks_others, breaks_among, breaks_line, line_rules}
 use Rattle.case_rules.specs.Counts.{is_incomplete, is_too_large as is_too_many, count_rules}
-use Rattle.netfile.specs.Built.{node_by, node_said, nodes_from, nodes_of, pipe_of, pipe_by, pipe_said, pipes_from, pipes_of, probe_by, probe_said, probes_from, tables_of, case_of}
+use Rattle.netfile.specs.Built.{parts_from, node_by, node_said, nodes_of, pipe_of, pipe_by, pipe_said, pipes_of, probe_by, probe_said, tables_of, case_of}
 use Rattle.netfile.specs.Verdict.{rule_numbers, all_passes}
 
 -- the number of a rule
@@ -61,28 +61,26 @@ pub rising : IsRising rule_numbers
 rising = rising_of rule_numbers refl
 
 -- tests, each with the numbers of rules alone
-of_either : (n : ℕ) (a b : Bool) → (IsTrue a → IsNumber n) → (IsTrue b → IsNumber n) → IsTrue (a || b) → IsNumber n
-of_either n true b f g h = f refl
-of_either n false b f g h = g h
+of_either : {X : Type 0} (a b : Bool) → (IsTrue a → X) → (IsTrue b → X) → IsTrue (a || b) → X
+of_either true b f g h = f refl
+of_either false b f g h = g h
 
 of_three : (n : ℕ) (a b c : Bool) → (IsTrue a → IsNumber n) → (IsTrue b → IsNumber n) → (IsTrue c → IsNumber n) → IsTrue (a || b || c) → IsNumber n
-of_three n true b c f g i h = f refl
-of_three n false true c f g i h = g refl
-of_three n false false c f g i h = i h
+of_three n a b c f g i h = of_either (a || b) c (of_either a b f g) i h
 
 of_if : (n : ℕ) (b x y : Bool) → (IsTrue x → IsNumber n) → (IsTrue y → IsNumber n) → IsTrue (cond b x y) → IsNumber n
 of_if n true x y f g h = f h
 of_if n false x y f g h = g h
 
-of_any : (n : ℕ) (p : ℕ → Bool) (ks : List ℕ) → ((k : ℕ) → IsTrue (p k) → IsNumber n) → IsTrue (list_any p ks) → IsNumber n
-of_any n p [] f h = absurd (cc)
-of_any n p (k ∷ ks) f h = of_either n (p k) (list_any p ks) (f k) (of_any n p ks f) h
+of_any : {X : Type 0} (p : ℕ → Bool) (ks : List ℕ) → ((k : ℕ) → IsTrue (p k) → X) → IsTrue (list_any p ks) → X
+of_any p [] f h = absurd (cc)
+of_any p (k ∷ ks) f h = of_either (p k) (list_any p ks) (f k) (of_any p ks f) h
 
 of_one : (n k : ℕ) (a : Bool) → IsNumber k → IsTrue ((n == k) && a) → IsNumber n
 of_one n k a i h = subst IsNumber (sym (eqb-true n k (and_parts (n == k) a h).0)) i
 
 of_two : (n j k : ℕ) (a b : Bool) → IsNumber j → IsNumber k → IsTrue (((n == j) && a) || ((n == k) && b)) → IsNumber n
-of_two n j k a b f g h = of_either n ((n == j) && a) ((n == k) && b) (of_one n j a f) (of_one n k b g) h
+of_two n j k a b f g h = of_either ((n == j) && a) ((n == k) && b) (of_one n j a f) (of_one n k b g) h
 
 of_four : (n : ℕ) (a b c d e : Bool) → IsTrue (((n == 11) && a) || ((n == 12) && b) || ((n == 13) && c && d) || ((n == 15) && c && e)) → IsNumber n
 of_four n a b c d e h = record { some = grind (arith, nat_tests); few = grind (arith, nat_tests) }
@@ -112,17 +110,15 @@ friction_numbers text n h = of_one n 4 (not (is_some (friction_of text))) (numbe
 
 field_numbers : (kind : FieldKind) (text : List ℕ) (n : ℕ) → IsTrue (breaks_field kind text n) → IsNumber n
 unfolding breaks_field
-field_numbers NewName text n h = name_numbers text n h
-field_numbers NodeName text n h = name_numbers text n h
-field_numbers PipeName text n h = name_numbers text n h
 field_numbers (Reference kind) text n h = reference_numbers text n h
 field_numbers (Number q) text n h = number_numbers q text n h
 field_numbers (Value q kind) text n h = of_if n (is_marked text) (breaks_reference text n) (breaks_number q text n) (reference_numbers text n) (number_numbers q text n) h
 field_numbers FrictionWord text n h = friction_numbers text n h
+field_numbers _ text n h = name_numbers text n h
 
 fields_numbers : (d : Directive) (fields : List (List ℕ)) (m n : ℕ) → IsTrue (breaks_fields d fields m n) → IsNumber n
 unfolding breaks_fields
-fields_numbers d fields m n h = of_any n (λ k. breaks_field (field_kind d k) (field fields k) n) (range_with_len 1 m) (λ k b. field_numbers (field_kind d k) (field fields k) n b) h
+fields_numbers d fields m n h = of_any (λ k. breaks_field (field_kind d k) (field fields k) n) (range_with_len 1 m) (λ k b. field_numbers (field_kind d k) (field fields k) n b) h
 
 -- the numbers of the rules of a line by itself
 counted_numbers : (d : Directive) (fields : List (List ℕ)) (n : ℕ) → IsTrue (breaks_counted d fields n) → IsNumber n
@@ -159,7 +155,7 @@ among_numbers before all (Some d) fields n h = others_numbers before all d field
 line_numbers : (before all : List (List (List ℕ))) (line : ℕ) (fields : List (List ℕ)) (n : ℕ) → IsTrue (breaks_line before all line fields n) → IsNumber n
 unfolding breaks_line
 line_numbers before all line fields n h =
-    of_either n (breaks_alone (version_of all) line fields n) (not (line == 1) && breaks_among before all (directive_among all fields) fields n)
+    of_either (breaks_alone (version_of all) line fields n) (not (line == 1) && breaks_among before all (directive_among all fields) fields n)
     (alone_numbers (version_of all) line fields n)
     (λ b. among_numbers before all (directive_among all fields) fields n (and_parts (not (line == 1)) (breaks_among before all (directive_among all fields) fields n) b).1) h
 
@@ -196,22 +192,14 @@ counts_listed lines line n h =
     (of_two n 8 10 (is_incomplete lines) (is_too_many lines) (number 8 refl) (number 10 refl)) h
 
 -- the rules of a part are on its line
-either_listed : (count line n : ℕ) (a b : Bool) → (IsTrue a → IsListed count line n) → (IsTrue b → IsListed count line n) → IsTrue (a || b) → IsListed count line n
-either_listed count line n true b f g h = f refl
-either_listed count line n false b f g h = g h
-
 on_part : (count own line n : ℕ) (breaks : ℕ → Bool) → own < count → (IsTrue (breaks n) → IsNumber n) → IsTrue (on_line own breaks line n) → IsListed count line n
 on_part count own line n breaks c f h =
     let e = eqb-true own line (and_parts (own == line) (breaks n) h).0 in
     record { before = omega arith; number = f (and_parts (own == line) (breaks n) h).1 }
 
-any_listed : (count line n : ℕ) (rules : ℕ → Rules) (ks : List ℕ) → ((k : ℕ) → IsTrue (rules k line n) → IsListed count line n) → IsTrue (list_any (λ k. rules k line n) ks) → IsListed count line n
-any_listed count line n rules [] f h = absurd (cc)
-any_listed count line n rules (k ∷ ks) f h = either_listed count line n (rules k line n) (list_any (λ k. rules k line n) ks) (f k) (any_listed count line n rules ks f) h
-
 below_listed : (count line n m : ℕ) (rules : ℕ → Rules) → ((k : ℕ) → IsTrue (rules k line n) → IsListed count line n) → IsTrue (any_below rules m line n) → IsListed count line n
 unfolding any_below
-below_listed count line n m rules f h = any_listed count line n rules (range_with_len 0 m) f h
+below_listed count line n m rules f h = of_any (λ k. rules k line n) (range_with_len 0 m) f h
 
 -- each part of a list that lines say is on one of them
 behind : {X : Type 0} (line_of : X → ℕ) (d : X) (m : ℕ) (o : Option X) (rest : List X) → ((x : X) → o ≡ Some x → line_of x < m) → ((k : ℕ) → line_of (get_or rest k d) < m) → (k : ℕ) → line_of (get_or (cons_option o rest) k d) < m
@@ -223,66 +211,37 @@ some_line : {X : Type 0} (line_of : X → ℕ) (y x : X) → Some y ≡ Some x �
 some_line line_of y x e = let i : y ≡ x = cc in sym (ap line_of i)
 
 node_line : (tables : List Table) (d : Option Directive) (line : ℕ) (fields : List (List ℕ)) (x : Node) → node_by tables d line fields ≡ Some x → x.line ≡ line
-node_line tables None line fields x e = cc
-node_line tables (Some (OfSingle single)) line fields x e = cc
-node_line tables (Some (OfTable kind)) line fields x e = cc
 node_line tables (Some (OfNode node)) line fields x e = some_line (λ (n : Node). n.line) _ x e
-node_line tables (Some OfPipe) line fields x e = cc
-node_line tables (Some OfProbe) line fields x e = cc
-node_line tables (Some OfWatch) line fields x e = cc
+node_line tables _ line fields x e = cc
 
 pipe_line : (nodes : List Node) (d : Option Directive) (line : ℕ) (fields : List (List ℕ)) (x : Pipe) → pipe_by nodes d line fields ≡ Some x → x.line ≡ line
 unfolding pipe_of
-pipe_line nodes None line fields x e = cc
-pipe_line nodes (Some (OfSingle single)) line fields x e = cc
-pipe_line nodes (Some (OfTable kind)) line fields x e = cc
-pipe_line nodes (Some (OfNode node)) line fields x e = cc
 pipe_line nodes (Some OfPipe) line fields x e = some_line (λ (p : Pipe). p.line) (pipe_of nodes line fields) x e
-pipe_line nodes (Some OfProbe) line fields x e = cc
-pipe_line nodes (Some OfWatch) line fields x e = cc
+pipe_line nodes _ line fields x e = cc
 
 probe_line : (pipes : List Pipe) (nodes : List Node) (d : Option Directive) (line : ℕ) (fields : List (List ℕ)) (x : Probe) → probe_by pipes nodes d line fields ≡ Some x → x.line ≡ line
-probe_line pipes nodes None line fields x e = cc
-probe_line pipes nodes (Some (OfSingle single)) line fields x e = cc
-probe_line pipes nodes (Some (OfTable kind)) line fields x e = cc
-probe_line pipes nodes (Some (OfNode node)) line fields x e = cc
-probe_line pipes nodes (Some OfPipe) line fields x e = cc
 probe_line pipes nodes (Some OfProbe) line fields x e = some_line (λ (q : Probe). q.line) _ x e
 probe_line pipes nodes (Some OfWatch) line fields x e = some_line (λ (q : Probe). q.line) _ x e
+probe_line pipes nodes _ line fields x e = cc
 
-nodes_behind : (tables : List Table) (line m : ℕ) (lines : List (List (List ℕ))) → 0 < line → line + length lines ≤ m → (k : ℕ) → (get_or (nodes_from tables line lines) k no_node).line < m
-unfolding node_said
-nodes_behind tables line m [] low high k = omega arith
-nodes_behind tables line m (fields ∷ lines) low high k =
-    behind (λ (n : Node). n.line) no_node m (node_by tables (said fields) line fields) (nodes_from tables (line + 1) lines)
-    (λ x e. let l = node_line tables (said fields) line fields x e in omega arith) (nodes_behind tables (line + 1) m lines (omega arith) (omega arith)) k
-
-pipes_behind : (nodes : List Node) (line m : ℕ) (lines : List (List (List ℕ))) → 0 < line → line + length lines ≤ m → (k : ℕ) → (get_or (pipes_from nodes line lines) k no_pipe).line < m
-unfolding pipe_said
-pipes_behind nodes line m [] low high k = omega arith
-pipes_behind nodes line m (fields ∷ lines) low high k =
-    behind (λ (p : Pipe). p.line) no_pipe m (pipe_by nodes (said fields) line fields) (pipes_from nodes (line + 1) lines)
-    (λ x e. let l = pipe_line nodes (said fields) line fields x e in omega arith) (pipes_behind nodes (line + 1) m lines (omega arith) (omega arith)) k
-
-probes_behind : (pipes : List Pipe) (nodes : List Node) (line m : ℕ) (lines : List (List (List ℕ))) → 0 < line → line + length lines ≤ m → (k : ℕ) → (get_or (probes_from pipes nodes line lines) k no_probe).line < m
-unfolding probe_said
-probes_behind pipes nodes line m [] low high k = omega arith
-probes_behind pipes nodes line m (fields ∷ lines) low high k =
-    behind (λ (q : Probe). q.line) no_probe m (probe_by pipes nodes (said fields) line fields) (probes_from pipes nodes (line + 1) lines)
-    (λ x e. let l = probe_line pipes nodes (said fields) line fields x e in omega arith) (probes_behind pipes nodes (line + 1) m lines (omega arith) (omega arith)) k
+parts_behind : {X : Type 0} (line_of : X → ℕ) (d : X) (says : ℕ → List (List ℕ) → Option X) → ((at : ℕ) (fields : List (List ℕ)) (x : X) → says at fields ≡ Some x → line_of x ≡ at) → (line m : ℕ) (lines : List (List (List ℕ))) → line_of d < m → line + length lines ≤ m
+    → (k : ℕ) → line_of (get_or (parts_from says line lines) k d) < m
+parts_behind line_of d says f line m [] low high k = low
+parts_behind line_of d says f line m (fields ∷ lines) low high k =
+    behind line_of d m (says line fields) (parts_from says (line + 1) lines) (λ x e. let l = f line fields x e in omega arith) (parts_behind line_of d says f (line + 1) m lines low (omega arith)) k
 
 -- the parts of the case that lines say are on lines of the text
 pipe_there : (lines : List (List (List ℕ))) (p : ℕ) → (pipe_at (case_of lines) p).line < length lines + 2
-unfolding case_of
-pipe_there lines p = pipes_behind (nodes_of lines) 1 (length lines + 2) lines (omega arith) (omega arith) p
+unfolding case_of pipe_said
+pipe_there lines p = parts_behind (λ (x : Pipe). x.line) no_pipe (pipe_said (nodes_of lines)) (λ at fields x e. pipe_line (nodes_of lines) (said fields) at fields x e) 1 (length lines + 2) lines (omega arith) (omega arith) p
 
 node_there : (lines : List (List (List ℕ))) (k : ℕ) → (node_at (case_of lines) k).line < length lines + 2
-unfolding case_of
-node_there lines k = nodes_behind (tables_of lines) 1 (length lines + 2) lines (omega arith) (omega arith) k
+unfolding case_of node_said
+node_there lines k = parts_behind (λ (x : Node). x.line) no_node (node_said (tables_of lines)) (λ at fields x e. node_line (tables_of lines) (said fields) at fields x e) 1 (length lines + 2) lines (omega arith) (omega arith) k
 
 probe_there : (lines : List (List (List ℕ))) (q : ℕ) → (probe_at (case_of lines) q).line < length lines + 2
-unfolding case_of
-probe_there lines q = probes_behind (pipes_of lines) (nodes_of lines) 1 (length lines + 2) lines (omega arith) (omega arith) q
+unfolding case_of probe_said
+probe_there lines q = parts_behind (λ (x : Probe). x.line) no_probe (probe_said (pipes_of lines) (nodes_of lines)) (λ at fields x e. probe_line (pipes_of lines) (nodes_of lines) (said fields) at fields x e) 1 (length lines + 2) lines (omega arith) (omega arith) q
 
 -- the numbers of the rules of parts
 pipe_numbers : (dt tolerance : ℤ) (p : Pipe) (n : ℕ) → IsTrue (breaks_pipe dt tolerance p n) → IsNumber n
@@ -308,8 +267,8 @@ unfolding part_rules
 parts_listed lines line n h =
     let case = case_of lines in
     let count = length lines + 2 in
-    either_listed count line n (either (any_below (pipe_rules case) (length case.pipes)) (any_below (node_rules case) (length case.nodes)) line n) (any_below (probe_rules case) (length case.probes) line n)
-    (either_listed count line n (any_below (pipe_rules case) (length case.pipes) line n) (any_below (node_rules case) (length case.nodes) line n)
+    of_either (either (any_below (pipe_rules case) (length case.pipes)) (any_below (node_rules case) (length case.nodes)) line n) (any_below (probe_rules case) (length case.probes) line n)
+    (of_either (any_below (pipe_rules case) (length case.pipes) line n) (any_below (node_rules case) (length case.nodes) line n)
     (below_listed count line n (length case.pipes) (pipe_rules case) (λ p. pipe_listed case count line n p (pipe_there lines p)))
     (below_listed count line n (length case.nodes) (node_rules case) (λ k. node_listed case count line n k (node_there lines k))))
     (below_listed count line n (length case.probes) (probe_rules case) (λ q. probe_listed case count line n q (probe_there lines q))) h

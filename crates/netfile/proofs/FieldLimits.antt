@@ -1,6 +1,6 @@
--- What follows of lines that break no rule: the counts, the spelling and the limits of their fields.
-use Rattle.std.proofs.Common.{◌≡◌, ◌<◌, ◌≤◌, ◌≤ℤ◌, ℕ, zero, suc, ℤ, pos, neg_ℤ, unsigned_abs, ◌+◌, ◌-◌, ◌==◌, ◌&&◌, ◌||◌, not, nat_lt, nat_le, Bool, true, false, cond, IsTrue, Some, None, Result, Ok, Err, List, [], ◌∷◌, length, take, get_or, refl, ap, ◌∙◌, arith, lt-ltb, le-leb}
-use Rattle.std.proofs.lemmas.Bool.{ne_eqb, and_parts, or_parts, not-false, false_from_ne_true}
+-- What is known of the fields of lines that break no rule: numbers and places are within their limits, each new name is short and the only one.
+use Rattle.std.proofs.Common.{◌≡◌, ◌<◌, ◌≤◌, ◌≤ℤ◌, ℕ, zero, suc, ℤ, pos, neg_ℤ, unsigned_abs, ◌+◌, ◌-◌, ◌==◌, ◌&&◌, ◌||◌, not, nat_lt, nat_le, Bool, true, false, cond, IsTrue, Some, None, Result, Ok, Err, List, [], ◌∷◌, length, take, get_or, refl, ap, ◌∙◌, arith, lt-ltb, le-leb, ◌*◌, ◌%◌, Option}
+use Rattle.std.proofs.lemmas.Bool.{ne_eqb, and_parts, or_parts, not-false, false_from_ne_true, eqb-true, ltb-true}
 use Rattle.std.proofs.lemmas.Bool.Decides.{nat_tests}
 use Rattle.std.proofs.lemmas.Int.{ints}
 use Rattle.std.proofs.lemmas.List.Folds.{list_any_at}
@@ -11,20 +11,24 @@ use Rattle.std.specs.List.{list_any, range_with_len, AllByRecursion}
 use Rattle.std.specs.Str.{bytes_eq}
 use Rattle.fixed_num.specs.declared.decimal.NumberFault.{NumberFault}
 use Rattle.fixed_num.specs.declared.decimal.NumberFault.TheVariants.{Spelling, Places, Large}
-use Rattle.case_model.specs.Limits.{IsWithin}
+use Rattle.case_model.specs.Limits.{IsWithin, least_entries}
 use Rattle.case_model.specs.Sets.{IsEmpty}
 use Rattle.case_lines.specs.declared.words.Directive.{Directive}
 use Rattle.case_lines.specs.declared.quantities.NumberLimits.{NumberLimits}
 use Rattle.case_lines.specs.declared.quantities.Quantity.{Quantity}
-use Rattle.case_lines.specs.declared.fields.FieldKind.TheVariants.{Number}
+use Rattle.case_lines.specs.declared.fields.FieldKind.TheVariants.{Number, NewName}
 use Rattle.case_lines.specs.Words.{directive_of, single_of, table_of, node_of, has_directive, directive_in}
 use Rattle.case_lines.specs.Quantities.{limits, quantity_in, is_spelt, is_outside, number_or_zero, amount}
-use Rattle.case_lines.specs.Fields.{field, is_heading, is_version, field_kind, has_count, has_too_many}
+use Rattle.case_lines.specs.Fields.{field, is_heading, is_version, field_kind, has_count, has_too_many, node_fields}
 use Rattle.case_lines.specs.Tables.{is_disordered}
-use Rattle.case_lines.specs.Alone.{breaks_number, breaks_field, breaks_fields, is_readable, breaks_counted, breaks_known, breaks_alone}
-use Rattle.case_rules.specs.Said.{line_at, version_of, said}
+use Rattle.case_lines.specs.Alone.{breaks_number, breaks_field, breaks_fields, is_readable, breaks_counted, breaks_known, breaks_alone, breaks_name}
+use Rattle.case_rules.specs.Said.{line_at, version_of, said, named_by, is_some_part, is_definition, defines}
 use Rattle.case_rules.specs.Among.{directive_among, is_unknown, uses_unknown, breaks_counted as breaks_counted_among, breaks_among, breaks_line, line_rules}
 use Rattle.fixed_num.proofs.Orders.{at_most_of}
+use Rattle.case_model.specs.declared.cases.TableKind.{TableKind}
+use Rattle.case_lines.specs.declared.words.Directive.TheVariants.{OfSingle, OfTable, OfNode, OfPipe, OfProbe, OfWatch}
+use Rattle.case_lines.specs.declared.quantities.Quantity.TheVariants.{PipePlace}
+use Rattle.netfile.specs.Named.{IsNamed, IsPlaced}
 
 -- what is known of a line with this directive among lines that break no rule
 pub record IsKept (lines : List (List (List ℕ))) (d : Directive) (fields : List (List ℕ)) : Type 0 where
@@ -185,7 +189,7 @@ not_first lines (suc k) d h empty s = omega arith
 pub kept_at : (lines : List (List (List ℕ))) (k : ℕ) → k < length lines → IsEmpty (line_rules lines) → IsLine lines (line_at lines k)
 kept_at lines k h empty = λ d s. line_kept lines k d (not_first lines k d h empty s) h empty s
 
-all_at : (P : List (List ℕ) → Type 0) (lines : List (List (List ℕ))) → ((k : ℕ) → k < length lines → P (line_at lines k)) → AllByRecursion P lines
+pub all_at : (P : List (List ℕ) → Type 0) (lines : List (List (List ℕ))) → ((k : ℕ) → k < length lines → P (line_at lines k)) → AllByRecursion P lines
 all_at P [] f = tt
 all_at P (fields ∷ lines) f = (f 0 (omega arith), all_at P lines (λ k h. f (suc k) (omega arith)))
 
@@ -198,8 +202,7 @@ within_of l (Ok x) s o =
     let t : (int_le l.least x && int_le x l.most) ≡ true = not-false _ o in
     record { low = at_most_of l.least x (and_parts (int_le l.least x) (int_le x l.most) t).0; high = at_most_of x l.most (and_parts (int_le l.least x) (int_le x l.most) t).1 }
 within_of l (Err Spelling) s o = absurd (cc)
-within_of l (Err Places) s o = absurd (cc)
-within_of l (Err Large) s o = absurd (cc)
+within_of l _ s o = absurd (cc)
 
 -- a number that breaks no rule
 pub in_limits : (quantity : Quantity) (text : List ℕ) → breaks_number quantity text 4 ≡ false → breaks_number quantity text 5 ≡ false → IsWithin (limits quantity).least (limits quantity).most (amount quantity text)
@@ -219,3 +222,83 @@ field_kept lines d fields k quantity h l m e = number_kept quantity (field field
 -- a number between two limits of one size
 pub size_within : (most : ℕ) (x : ℤ) → IsWithin (neg_ℤ (pos most)) (pos most) x → unsigned_abs x ≤ most
 size_within most x h = omega (arith, ints)
+
+-- a new name
+pub new_name : (d : Directive) → is_some_part (named_by (Some d)) ≡ true → field_kind d 1 ≡ NewName
+unfolding field_kind
+new_name (OfTable kind) h = refl
+new_name (OfNode node) h = refl
+new_name OfPipe h = refl
+new_name _ h = absurd (cc)
+
+pub short_name : (text : List ℕ) → breaks_field NewName text 10 ≡ false → length text ≤ 32
+unfolding breaks_field breaks_name
+short_name text h = grind (arith, nat_tests)
+
+-- a table line has two fields at least
+pub two_fields : (kind : TableKind) (n : ℕ) → has_count (OfTable kind) n ≡ true → nat_lt 1 n ≡ true
+unfolding has_count
+two_fields kind n h = let m = (and_parts (n % 2 == 0) (nat_le (2 * least_entries kind + 2) n) h).1 in grind (arith, nat_tests)
+
+-- a line with a new name has it
+some_name : (d : Directive) (n : ℕ) → is_some_part (named_by (Some d)) ≡ true → has_count d n ≡ true → nat_lt 1 n ≡ true
+unfolding has_count
+some_name (OfTable kind) n h k = two_fields kind n k
+some_name (OfNode node) n h k = lt-ltb 1 n (let e = eqb-true n (length (node_fields node) + 3) k in omega (arith, e))
+some_name OfPipe n h k = grind (arith, nat_tests)
+some_name _ n h k = absurd (cc)
+
+named_kept : (lines : List (List (List ℕ))) (d : Directive) (fields : List (List ℕ)) → is_some_part (named_by (Some d)) ≡ true → IsKept lines d fields → (nat_lt 1 (length fields) ≡ true) × (length (field fields 1) ≤ 32)
+named_kept lines d fields p k =
+    let n = some_name d (length fields) p k.counted in
+    (n, short_name (field fields 1) (let f = k.each 1 10 (omega arith) (ltb-true 1 (length fields) n) in rw (new_name d p) at f))
+
+named_said : (lines : List (List (List ℕ))) (o : Option Directive) (fields : List (List ℕ)) → said fields ≡ o → IsLine lines fields → is_some_part (named_by o) ≡ true → (nat_lt 1 (length fields) ≡ true) × (length (field fields 1) ≤ 32)
+named_said lines None fields e f h = absurd (cc)
+named_said lines (Some d) fields e f h = named_kept lines d fields h (f d e)
+
+named_line : (lines : List (List (List ℕ))) (fields : List (List ℕ)) → IsLine lines fields → IsNamed fields
+named_line lines fields f h = named_said lines (said fields) fields refl f h
+
+-- a place
+low_place : (x : ℤ) → IsWithin (pos 0) (pos 65_536) x → unsigned_abs x ≤ 65_536
+low_place x h = omega (arith, ints)
+
+pub placed_kept : (lines : List (List (List ℕ))) (fields : List (List ℕ)) → IsKept lines OfProbe fields → unsigned_abs (amount PipePlace (field fields 2)) ≤ 65_536
+unfolding field_kind has_count
+placed_kept lines fields k =
+    let n = eqb-true (length fields) 3 k.counted in
+    low_place (amount PipePlace (field fields 2)) (field_kept lines OfProbe fields 2 PipePlace k (omega arith) (omega arith) refl)
+
+placed_line : (lines : List (List (List ℕ))) (fields : List (List ℕ)) → IsLine lines fields → IsPlaced fields
+placed_line lines fields f e = placed_kept lines fields (f OfProbe e)
+
+pub all_named : (lines : List (List (List ℕ))) → IsEmpty (line_rules lines) → AllByRecursion IsNamed lines
+all_named lines empty = all_at IsNamed lines (λ k h. named_line lines (line_at lines k) (kept_at lines k h empty))
+
+pub all_placed : (lines : List (List (List ℕ))) → IsEmpty (line_rules lines) → AllByRecursion IsPlaced lines
+all_placed lines empty = all_at IsPlaced lines (λ k h. placed_line lines (line_at lines k) (kept_at lines k h empty))
+
+-- no two lines define one name
+and_no : (a b : Bool) → a ≡ true → (a && b) ≡ false → b ≡ false
+and_no true b e h = h
+and_no false b e h = cc
+
+name_new : (before all : List (List (List ℕ))) (fields : List (List ℕ)) (d : Directive) → breaks_counted_among before all d fields 6 ≡ false → (is_definition fields && list_any (defines (field fields 1)) before) ≡ false
+unfolding breaks_counted_among
+name_new before all fields d h = (or_parts (is_definition fields && list_any (defines (field fields 1)) before) false (or_parts _ false h).0).0
+
+counted_among : (before all : List (List (List ℕ))) (fields : List (List ℕ)) (d : Directive) (number : ℕ) → has_directive (version_of all) d ≡ true → has_count d (length fields) ≡ true → said fields ≡ Some d → breaks_among before all (directive_among all fields) fields number ≡ false → breaks_counted_among before all d fields number ≡ false
+unfolding breaks_among
+counted_among before all fields d number a c s h = rw (s, a, c) at h
+
+-- a line that defines a name comes behind no other that does
+pub name_once : (lines : List (List (List ℕ))) → IsEmpty (line_rules lines) → (k : ℕ) (d : Directive) → k < length lines → said (line_at lines k) ≡ Some d → is_definition (line_at lines k) ≡ true
+    → list_any (defines (field (line_at lines k) 1)) (take k lines) ≡ false
+name_once lines empty k d h s e =
+    let fields = line_at lines k in
+    let first = not_first lines k d h empty s in
+    let kept = kept_at lines k h empty d s in
+    let l : (k + 1 == 1) ≡ false = ne_eqb (k + 1) 1 (λ z. absurd (omega arith)) in
+    and_no (is_definition fields) (list_any (defines (field fields 1)) (take k lines)) e
+    (name_new (take k lines) lines fields d (counted_among (take k lines) lines fields d 6 kept.allowed kept.counted s (among_none (take k lines) lines (k + 1) 6 fields l (line_none lines k 6 h empty))))

@@ -1,4 +1,4 @@
--- The verdict on a text: its refusal is that of the first pass that has one, and there is none where no pass has one.
+-- The verdict on a text: its refusal is that of the first pass that has one; where none has one its case is within the limits of the case text.
 use Rattle.std.proofs.Common.{Bool, cond, inl, inr, ◌∙◌, ℕ, ◌+◌, ◌<◌, ◌≤◌, ◌≡◌, nat_lt, true, false, Option, Some, None, Result, Ok, Err, IfSome, IfErr, List, length, sym, subst, refl}
 use Rattle.std.specs.Result.{IsErrAnd}
 use Rattle.std.proofs.lemmas.Bool.{lt-ltb, le-ltb, ltb-true, ltb-false}
@@ -13,15 +13,42 @@ use Rattle.case_model.specs.Bounds.{FirstOrNone}
 use Rattle.case_model.proofs.SearchLaws.{first_is, first_found, first_none}
 use Rattle.case_model.specs.declared.fault.CaseFault.{CaseFault}
 use Rattle.case_model.specs.declared.fault.CaseFault.TheVariants.{Refused, Memory}
-use Rattle.case_rules.specs.Said.{lines_of}
+use Rattle.case_lines.specs.Texts.{lines_of}
 use Rattle.case_rules.specs.Among.{line_rules}
 use Rattle.case_rules.specs.Counts.{count_rules}
 use Rattle.case_model.specs.Accepted.{IsAccepted}
 use Rattle.netfile.specs.Built.{case_of}
 use Rattle.netfile.specs.Verdict.{all_passes, rule_numbers, refusal_of, judged, too_long, verdict, refusal_in, IsVerdict}
 use Rattle.netfile.proofs.Bounds.{rising, all_bounded}
-use Rattle.netfile.proofs.PartCounts.{some_pipe_in}
-use Rattle.netfile.proofs.Readable.{is_read}
+use Rattle.netfile.proofs.PartsSaid.{some_pipe_in, few_tables_in, few_nodes_in, few_pipes_in, few_probes_in}
+use Rattle.case_model.specs.Limits.{IsRead}
+use Rattle.netfile.proofs.SingleLimits.{version_read, friction_read, dt_in, steps_in, vapour_in, weight_in, tolerance_in, every_in}
+use Rattle.netfile.proofs.TableLimits.{tables_in}
+use Rattle.netfile.proofs.PartLimits.{nodes_in, pipes_in, joins_in, spots_in}
+
+pub is_read : (lines : List (List (List ℕ))) → IsEmpty (line_rules lines) → IsEmpty (count_rules lines) → IsRead (case_of lines)
+unfolding case_of
+is_read lines kept counts = record {
+  version = version_read lines;
+  friction = friction_read lines;
+  dt = dt_in lines kept counts;
+  some_steps = (steps_in lines kept counts).0;
+  few_steps = (steps_in lines kept counts).1;
+  vapour = vapour_in lines kept counts;
+  weight = weight_in lines kept counts;
+  tolerance = tolerance_in lines kept counts;
+  some_every = (every_in lines kept counts).0;
+  few_every = (every_in lines kept counts).1;
+  few_tables = few_tables_in lines counts;
+  few_nodes = few_nodes_in lines counts;
+  few_pipes = few_pipes_in lines counts;
+  few_probes = few_probes_in lines counts;
+  tables = tables_in lines kept;
+  nodes = nodes_in lines kept;
+  pipes = pipes_in lines kept;
+  joins = joins_in lines kept;
+  spots = spots_in lines kept;
+}
 
 -- the refusal of lines against their passes
 pub refusal_only : (lines : List (List (List ℕ))) (line number : ℕ) → IsFirst (all_passes lines) line number → refusal_of lines ≡ Some (record { number = number; line = line })

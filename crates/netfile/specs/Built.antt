@@ -73,22 +73,22 @@ pipe_index pipes name = unwrap_or (position_from (λ p. bytes_eq p.name name) 0 
 -- the table that line number `line` says, if any
 abbrev pub table_by : Option Directive → ℕ → List (List ℕ) → Option Table
 table_by None line fields = None
-table_by (Some (OfSingle single)) line fields = None
 table_by (Some (OfTable kind)) line fields =
     Some (record { name = field fields 1; line = line; kind = kind; points = pairs_of kind fields })
-table_by (Some (OfNode node)) line fields = None
-table_by (Some OfPipe) line fields = None
-table_by (Some OfProbe) line fields = None
-table_by (Some OfWatch) line fields = None
+table_by _ line fields = None
 
 unfoldable pub table_said : ℕ → List (List ℕ) → Option Table
 table_said line fields = table_by (said fields) line fields
 
--- the tables of these lines in file order, of which the first has the number `line`
+-- the parts that these lines say in file order, of which the first has the number `line`
+abbrev pub parts_from : {X : Type 0} → (ℕ → List (List ℕ) → Option X) → ℕ → List (List (List ℕ))
+    → List X
+parts_from says line [] = []
+parts_from says line (fields ∷ more) =
+    cons_option (says line fields) (parts_from says (line + 1) more)
+
 abbrev pub tables_from : ℕ → List (List (List ℕ)) → List Table
-tables_from line [] = []
-tables_from line (fields ∷ more) =
-    cons_option (table_said line fields) (tables_from (line + 1) more)
+tables_from line lines = parts_from table_said line lines
 
 -- a number, or the table that a reference names
 unfoldable pub value_said : List Table → Quantity → List ℕ → Value
@@ -117,8 +117,6 @@ kind_said tables Vessel f =
 -- the node that line number `line` says, if any
 abbrev pub node_by : List Table → Option Directive → ℕ → List (List ℕ) → Option Node
 node_by tables None line fields = None
-node_by tables (Some (OfSingle single)) line fields = None
-node_by tables (Some (OfTable kind)) line fields = None
 node_by tables (Some (OfNode node)) line fields =
     Some (record {
       name = field fields 1;
@@ -127,17 +125,13 @@ node_by tables (Some (OfNode node)) line fields =
           (field fields 2);
       kind = kind_said tables node fields;
     })
-node_by tables (Some OfPipe) line fields = None
-node_by tables (Some OfProbe) line fields = None
-node_by tables (Some OfWatch) line fields = None
+node_by tables _ line fields = None
 
 unfoldable pub node_said : List Table → ℕ → List (List ℕ) → Option Node
 node_said tables line fields = node_by tables (said fields) line fields
 
 abbrev pub nodes_from : List Table → ℕ → List (List (List ℕ)) → List Node
-nodes_from tables line [] = []
-nodes_from tables line (fields ∷ more) =
-    cons_option (node_said tables line fields) (nodes_from tables (line + 1) more)
+nodes_from tables line lines = parts_from (node_said tables) line lines
 
 -- the pipe that line number `line` says, if any
 unfoldable pub pipe_of : List Node → ℕ → List (List ℕ) → Pipe
@@ -155,28 +149,18 @@ pipe_of nodes line f = record {
 
 abbrev pub pipe_by : List Node → Option Directive → ℕ → List (List ℕ) → Option Pipe
 pipe_by nodes None line fields = None
-pipe_by nodes (Some (OfSingle single)) line fields = None
-pipe_by nodes (Some (OfTable kind)) line fields = None
-pipe_by nodes (Some (OfNode node)) line fields = None
 pipe_by nodes (Some OfPipe) line fields = Some (pipe_of nodes line fields)
-pipe_by nodes (Some OfProbe) line fields = None
-pipe_by nodes (Some OfWatch) line fields = None
+pipe_by nodes _ line fields = None
 
 unfoldable pub pipe_said : List Node → ℕ → List (List ℕ) → Option Pipe
 pipe_said nodes line fields = pipe_by nodes (said fields) line fields
 
 abbrev pub pipes_from : List Node → ℕ → List (List (List ℕ)) → List Pipe
-pipes_from nodes line [] = []
-pipes_from nodes line (fields ∷ more) =
-    cons_option (pipe_said nodes line fields) (pipes_from nodes (line + 1) more)
+pipes_from nodes line lines = parts_from (pipe_said nodes) line lines
 
 -- the probe or watch that line number `line` says, if any
 abbrev pub probe_by : List Pipe → List Node → Option Directive → ℕ → List (List ℕ) → Option Probe
 probe_by pipes nodes None line fields = None
-probe_by pipes nodes (Some (OfSingle single)) line fields = None
-probe_by pipes nodes (Some (OfTable kind)) line fields = None
-probe_by pipes nodes (Some (OfNode node)) line fields = None
-probe_by pipes nodes (Some OfPipe) line fields = None
 probe_by pipes nodes (Some OfProbe) line fields =
     Some (record {
       line = line;
@@ -185,14 +169,13 @@ probe_by pipes nodes (Some OfProbe) line fields =
     })
 probe_by pipes nodes (Some OfWatch) line fields =
     Some (record { line = line; at = OnNode (node_index nodes (field fields 1)) })
+probe_by pipes nodes _ line fields = None
 
 unfoldable pub probe_said : List Pipe → List Node → ℕ → List (List ℕ) → Option Probe
 probe_said pipes nodes line fields = probe_by pipes nodes (said fields) line fields
 
 abbrev pub probes_from : List Pipe → List Node → ℕ → List (List (List ℕ)) → List Probe
-probes_from pipes nodes line [] = []
-probes_from pipes nodes line (fields ∷ more) =
-    cons_option (probe_said pipes nodes line fields) (probes_from pipes nodes (line + 1) more)
+probes_from pipes nodes line lines = parts_from (probe_said pipes nodes) line lines
 
 -- the parts that a text says
 abbrev pub tables_of : List (List (List ℕ)) → List Table

@@ -1,5 +1,5 @@
 -- Maps from the names of parts to their indices.
-use Rattle.std.specs.Prelude.{ℕ, ◌≡◌, Bool, Option, Some, None, if◌then◌else◌, List}
+use Rattle.std.specs.Prelude.{ℕ, ◌≡◌, List}
 use Rattle.std.specs.List.{position_from}
 use Rattle.std.specs.HashMap.{HashMap, get}
 use Rattle.std.specs.Str.{bytes_eq}
@@ -25,8 +25,3 @@ abbrev pub IndexPipes : {S : Type 0} → HashMap (Bor (List ℕ)) ℕ S → List
 IndexPipes indices pipes =
     (name : Bor (List ℕ)) → get same_bytes indices name
     ≡ position_from (λ p. bytes_eq p.name name.now) 0 pipes
-
--- an index that is there already, or else a new one where the name is that of the new part
-abbrev pub or_index : Option ℕ → Bool → ℕ → Option ℕ
-or_index (Some old) same index = Some old
-or_index None same index = if same then Some index else None

@@ -10,7 +10,7 @@ use Rattle.case_model.specs.Division.{mesh_of}
 use Rattle.case_model.specs.Refusals.{passes}
 use Rattle.case_model.specs.declared.fault.CaseFault.{CaseFault}
 use Rattle.case_model.specs.declared.fault.CaseFault.TheVariants.{Refused, Memory}
-use Rattle.case_rules.specs.Said.{lines_of}
+use Rattle.case_lines.specs.Texts.{lines_of}
 use Rattle.case_rules.specs.Among.{line_rules}
 use Rattle.case_rules.specs.Counts.{count_rules}
 use Rattle.netfile.specs.Built.{case_of}

@@ -5,7 +5,7 @@ ghost use Rattle.netfile.specs.Verdict.{verdict, refusal_in};
 
 use crate::building::case_of;
 use case_model::{Case, CaseFault, Mesh};
-use case_rules::{judge_counts, judge_lines};
+use case_rules::{judge_counts, judge_lines, tally_lines};
 use reaches::divide;
 use std::alloc::Global;
 
@@ -27,9 +27,10 @@ pub fn read_case(alloc: Global, bytes: &[u8]) -> Result<(Case, Mesh), CaseFault>
             line: 0,
         });
     }
-    judge_lines(alloc, bytes)?;
-    judge_counts(alloc, bytes)?;
-    let case = case_of(alloc, bytes)?;
+    let tally = tally_lines(alloc, bytes)?;
+    judge_lines(alloc, bytes, &tally)?;
+    judge_counts(&tally)?;
+    let case = case_of(alloc, bytes, &tally)?;
     let mesh = divide(alloc, &case)?;
     Ok((case, mesh))
 }

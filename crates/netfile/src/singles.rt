@@ -1,64 +1,36 @@
 //! What the single directives of a text give.
-ghost use Rattle.std.specs.Prelude.{◌≡◌, ◌==◌, Option, Some, None, if◌then◌else◌, unwrap_or, codes};
-ghost use Rattle.std.specs.Prelude.{IfOk, map};
-ghost use Rattle.std.specs.List.{find};
-ghost use Rattle.case_lines.specs.Fields.{field};
-ghost use Rattle.case_rules.specs.Said.{lines_of, is_single_of};
-ghost use Rattle.netfile.specs.Built.{single_amount, friction_by, friction_from};
+ghost use Rattle.std.specs.Prelude.{◌≡◌, ◌==◌, List as Items, ℕ, unwrap_or, if◌then◌else◌};
+ghost use Rattle.case_rules.specs.Known.{single_word};
+ghost use Rattle.case_rules.specs.Tallies.{IsTally};
+ghost use Rattle.netfile.specs.Built.{single_amount, friction_from};
+ghost use Rattle.netfile.specs.Settings.{amount_by, friction_told};
 
-use case_lines::{Quantity, amount, field, friction_of};
+use case_lines::{Quantity, Single, amount, friction_of};
 use case_model::Friction;
-use case_rules::{is_single_of, next_line};
-use std::alloc::{AllocError, Global};
+use case_rules::Tally;
 
 /// What the first line of a single directive gives, or the default where there is no such line.
-/// Fails only for want of memory.
-#[tactic(auto, unfolding(crate::specs::Built::single_amount))]
-pub(crate) fn single_amount(
-    alloc: Global,
-    bytes: &[u8],
-    word: &[u8],
-    quantity: Quantity,
-    default: i64,
-) -> Result<i64, AllocError>
-    ensures { IfOk result (λ x. x ≡ single_amount word.now quantity default (lines_of bytes.now)) }
+pub(crate) fn single_amount(tally: &Tally, single: Single, quantity: Quantity, default: i64) -> i64
+    ensures { (lines : Items (Items (Items ℕ))) → IsTally tally.now lines →
+        result ≡ single_amount (single_word single) quantity default lines }
 {
-    let mut rest = bytes;
-    'lines: while let Some((fields, others)) = next_line(alloc, rest)? {
-        if is_single_of(word, &fields) {
-            return Ok(amount(quantity, field(&fields, 1)));
-        }
-        rest = others;
+    match tally.text(single) {
+        Some(text) => amount(quantity, text),
+        None => default,
     }
-    Ok(default)
 }
 
-/// How friction is taken, by the version of the text. Fails only for want of memory.
+/// How friction is taken, by the version of the text.
 #[tactic(auto, unfolding(crate::specs::Built::friction_from))]
-pub(crate) fn friction_from(
-    alloc: Global,
-    bytes: &[u8],
-    version: u8,
-) -> Result<Friction, AllocError>
-    ensures { IfOk result (λ x. x ≡ friction_from version (lines_of bytes.now)) }
+pub(crate) fn friction_from(tally: &Tally) -> Friction
+    ensures { (lines : Items (Items (Items ℕ))) → IsTally tally.now lines →
+        result ≡ friction_from tally.now.version lines }
 {
-    if version == 1 {
-        return Ok(Friction::Explicit);
+    if tally.version == 1 {
+        return Friction::Explicit;
     }
-    friction_said(alloc, bytes)
-}
-
-// How friction is taken by the first line of its directive, or explicitly where there is none.
-fn friction_said(alloc: Global, bytes: &[u8]) -> Result<Friction, AllocError>
-    ensures { IfOk result (λ x. x
-        ≡ friction_by (find (is_single_of (codes "friction")) (lines_of bytes.now))) }
-{
-    let mut rest = bytes;
-    'lines: while let Some((fields, others)) = next_line(alloc, rest)? {
-        if is_single_of(b"friction", &fields) {
-            return Ok(friction_of(field(&fields, 1)).unwrap_or(Friction::Explicit));
-        }
-        rest = others;
+    match tally.text(Single::FrictionForm) {
+        Some(text) => friction_of(text).unwrap_or(Friction::Explicit),
+        None => Friction::Explicit,
     }
-    Ok(Friction::Explicit)
 }

@@ -7,15 +7,14 @@ use Rattle.case_model.specs.Refusals.{passes}
 use Rattle.case_model.specs.Sets.{IsEmpty, AreEmpty}
 use Rattle.case_model.specs.Search.{Refusal}
 use Rattle.case_model.specs.Bounds.{FirstOrNone}
-use Rattle.case_rules.specs.Said.{lines_of}
+use Rattle.case_lines.specs.Texts.{lines_of}
 use Rattle.case_rules.specs.Among.{line_rules}
 use Rattle.case_rules.specs.Counts.{count_rules}
 use Rattle.case_writing.specs.CaseText.{case_text}
 use Rattle.netfile.specs.Built.{case_of}
 use Rattle.netfile.specs.Verdict.{all_passes, refusal_of, judged, too_long, verdict}
-use Rattle.netfile.proofs.Judged.{refusal_first, some_pipe}
-use Rattle.netfile.proofs.PartCounts.{some_pipe_in}
-use Rattle.netfile.proofs.Readable.{is_read}
+use Rattle.netfile.proofs.Judged.{refusal_first, some_pipe, is_read}
+use Rattle.netfile.proofs.PartsSaid.{some_pipe_in}
 use Rattle.round_trip.specs.Renumbered.{renumbered}
 use Rattle.round_trip.specs.Writable.{IsWritable}
 use Rattle.round_trip.proofs.LawBack.{mesh_reads_back}

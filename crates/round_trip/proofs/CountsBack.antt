@@ -10,7 +10,7 @@ use Rattle.case_lines.specs.Words.{single_of, table_of, node_of, directive_of}
 use Rattle.case_rules.specs.Said.{said, is_single, is_single_of}
 use Rattle.case_rules.specs.Counts.{is_table, is_node, is_pipe, is_sampled, count_of, is_incomplete, is_too_large, count_rules}
 use Rattle.netfile.specs.Built.{tables_of, nodes_of, pipes_of}
-use Rattle.netfile.proofs.PartCounts.{tables_count, nodes_count, pipes_count, probes_count}
+use Rattle.netfile.proofs.PartsSaid.{tables_count, nodes_count, pipes_count, probes_count}
 use Rattle.round_trip.specs.Lines.{settings_lines, case_lines}
 use Rattle.round_trip.specs.Renumbered.{first_part, tables_on}
 use Rattle.round_trip.specs.Writable.{IsWritable}

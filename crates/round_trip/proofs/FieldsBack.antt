@@ -8,7 +8,7 @@ use Rattle.std.proofs.lemmas.List.Splits.{slice_split_none, slice_split_at}
 use Rattle.std.proofs.lemmas.List.Sums.{position_or_len_is}
 use Rattle.case_lines.specs.Texts.{text_lines, without_return, without_comment, is_blank, is_some, parts_of, fields_of}
 use Rattle.case_lines.proofs.LinesCut.{lines_more, lines_none}
-use Rattle.case_rules.specs.Said.{lines_of}
+use Rattle.case_lines.specs.Texts.{lines_of}
 use Rattle.surge_io.specs.Fields.{line_of}
 use Rattle.round_trip.specs.Plain.{is_plain_byte, is_plain, IsPlainLine}
 use Rattle.round_trip.proofs.Tests.{plain_byte, none_passes, all_of_plain}

@@ -18,8 +18,8 @@ use Rattle.case_lines.specs.Quantities.{limits, is_spelt, is_outside}
 use Rattle.case_lines.specs.Fields.{is_name, is_reference}
 use Rattle.case_lines.specs.Words.{friction_of}
 use Rattle.case_lines.specs.Alone.{breaks_name, breaks_reference, breaks_number, breaks_friction, breaks_field}
-use Rattle.case_rules.specs.declared.parts.Part.TheVariants.{ATable, ANode, APipe}
-use Rattle.case_rules.specs.Said.{defines_part}
+use Rattle.case_rules.specs.declared.parts.Part.TheVariants.{ANode, APipe}
+use Rattle.case_rules.specs.Said.{table_part, defines_part}
 use Rattle.case_rules.specs.Among.{is_unknown}
 use Rattle.case_writing.specs.CaseText.{friction_word, name_of_table, name_of_node, name_of_pipe, value_text, reference_text}
 use Rattle.round_trip.specs.Writable.{IsNameText}
@@ -33,7 +33,7 @@ pub record IsFit (all : List (List (List ℕ))) (kind : FieldKind) (text : List 
 
 -- the names that a case uses are names, and these lines define each for a part of its kind
 pub record AreKnown (all : List (List (List ℕ))) (case : Case) : Type 0 where
-  pub tables : (kind : TableKind) (t : ℕ) → IsTableOf kind case.tables t → list_any (defines_part (ATable kind) (name_of_table case.tables t)) all ≡ true
+  pub tables : (kind : TableKind) (t : ℕ) → IsTableOf kind case.tables t → list_any (defines_part (table_part kind) (name_of_table case.tables t)) all ≡ true
   pub nodes : (k : ℕ) → k < length case.nodes → list_any (defines_part ANode (name_of_node case.nodes k)) all ≡ true
   pub pipes : (p : ℕ) → p < length case.pipes → list_any (defines_part APipe (name_of_pipe case.pipes p)) all ≡ true
   pub table_names : (t : ℕ) → t < length case.tables → IsNameText (name_of_table case.tables t)
@@ -86,7 +86,7 @@ pub reference_fit : (all : List (List (List ℕ))) (case : Case) (kind : TableKi
 unfolding breaks_field is_unknown
 reference_fit all case kind t a h = record {
   alone = reference_unbroken (name_of_table case.tables t) (a.table_names t h.there);
-  known = not_of (list_any (defines_part (ATable kind) (name_of_table case.tables t)) all) (a.tables kind t h);
+  known = not_of (list_any (defines_part (table_part kind) (name_of_table case.tables t)) all) (a.tables kind t h);
 }
 
 pub number_fit : (all : List (List (List ℕ))) (q : Quantity) (x : ℤ) → IsSmall x → IsWithin (limits q).least (limits q).most x → IsFit all (Number q) (written (limits q).places x)
@@ -101,7 +101,7 @@ table_fit : (all : List (List (List ℕ))) (case : Case) (q : Quantity) (kind : 
 unfolding breaks_field is_unknown
 table_fit all case q kind t a h = record {
   alone = reference_unbroken (name_of_table case.tables t) (a.table_names t h.there);
-  known = not_of (list_any (defines_part (ATable kind) (name_of_table case.tables t)) all) (a.tables kind t h);
+  known = not_of (list_any (defines_part (table_part kind) (name_of_table case.tables t)) all) (a.tables kind t h);
 }
 
 -- a word on friction

@@ -1,6 +1,6 @@
 -- The names that a case uses, and the lines of its written text that define them.
 use Rattle.std.proofs.Common.{ℕ, zero, suc, ◌+◌, ◌<◌, ◌≡◌, Bool, true, List, [], ◌∷◌, ◌++◌, map, length, get_or, subst, ap, ◌∙◌, refl, arith, length-append}
-use Rattle.std.proofs.lemmas.Bool.{or_left, or_right, eq-eqb, lt-ltb}
+use Rattle.std.proofs.lemmas.Bool.{or_left, or_right, lt-ltb}
 use Rattle.std.proofs.lemmas.List.{get_or_append_left, get_or-append-add, get_or-map}
 use Rattle.std.proofs.lemmas.List.Folds.{list_any-append}
 use Rattle.std.specs.List.{list_any, All}
@@ -11,8 +11,10 @@ use Rattle.case_model.specs.declared.cases.Node.{Node}
 use Rattle.case_model.specs.declared.cases.Pipe.{Pipe}
 use Rattle.case_model.specs.Limits.{IsTableOf}
 use Rattle.case_model.specs.Parts.{no_table, no_node, no_pipe}
-use Rattle.case_rules.specs.declared.parts.Part.TheVariants.{ATable, ANode, APipe}
-use Rattle.case_rules.specs.Said.{part_number, defines_numbered, defines_part}
+use Rattle.case_rules.specs.declared.parts.Part.TheVariants.{ANode, APipe}
+use Rattle.case_rules.specs.contracts.parts.Part.{the_type}
+use denote.Enum.Bare.{true_same}
+use Rattle.case_rules.specs.Said.{table_part, defines_part}
 use Rattle.case_writing.specs.CaseText.{name_of_table, name_of_node, name_of_pipe}
 use Rattle.round_trip.specs.Lines.{settings_lines, table_line, node_line, pipe_line, case_lines}
 use Rattle.round_trip.specs.Writable.{IsNameText, case_names}
@@ -43,16 +45,16 @@ parts_named case h =
     }
 
 -- a part's own line defines its name
-table_own : (kind : TableKind) (t : Table) → t.kind ≡ kind → defines_part (ATable kind) t.name (table_line t) ≡ true
-unfolding defines_numbered table_line
-table_own kind t e = rw (of_table t, e, eq-eqb (part_number (ATable kind)) (part_number (ATable kind)) refl, lt-ltb 1 (length (table_line t)) (omega arith)) (same_name t.name t.name refl)
+table_own : (kind : TableKind) (t : Table) → t.kind ≡ kind → defines_part (table_part kind) t.name (table_line t) ≡ true
+unfolding defines_part table_line
+table_own kind t e = rw (of_table t, e, true_same the_type (table_part kind) (table_part kind) refl, lt-ltb 1 (length (table_line t)) (omega arith)) (same_name t.name t.name refl)
 
 node_own : (tables : List Table) (n : Node) → defines_part ANode n.name (node_line tables n) ≡ true
-unfolding defines_numbered node_line
+unfolding defines_part node_line
 node_own tables n = rw (of_node tables n, lt-ltb 1 (length (node_line tables n)) (omega arith)) (same_name n.name n.name refl)
 
 pipe_own : (nodes : List Node) (p : Pipe) → defines_part APipe p.name (pipe_line nodes p) ≡ true
-unfolding defines_numbered pipe_line
+unfolding defines_part pipe_line
 pipe_own nodes p = rw (of_pipe nodes p) (same_name p.name p.name refl)
 
 -- a line among those that are made of parts
@@ -70,9 +72,9 @@ in_back test xs ys h = list_any-append test xs ys ∙ or_right (list_any test xs
 in_case : (test : List (List ℕ) → Bool) (case : Case) → list_any test (table_rest case) ≡ true → list_any test (case_lines case) ≡ true
 in_case test case h = ap (λ (lines : List (List (List ℕ))). list_any test lines) (lines_right case) ∙ in_back test (settings_lines case) (table_rest case) h
 
-table_known : (case : Case) (kind : TableKind) (t : ℕ) → IsTableOf kind case.tables t → list_any (defines_part (ATable kind) (name_of_table case.tables t)) (case_lines case) ≡ true
+table_known : (case : Case) (kind : TableKind) (t : ℕ) → IsTableOf kind case.tables t → list_any (defines_part (table_part kind) (name_of_table case.tables t)) (case_lines case) ≡ true
 table_known case kind t h =
-    let test = defines_part (ATable kind) (name_of_table case.tables t) in
+    let test = defines_part (table_part kind) (name_of_table case.tables t) in
     in_case test case (in_front test (map table_line case.tables) (node_rest case) (among test table_line case.tables t no_table h.there (table_own kind (get_or case.tables t no_table) (h.wanted no_table))))
 
 node_known : (case : Case) (k : ℕ) → k < length case.nodes → list_any (defines_part ANode (name_of_node case.nodes k)) (case_lines case) ≡ true

@@ -1,7 +1,7 @@
 -- The lines of the written text of a case.
 use Rattle.std.proofs.Common.{◌≡◌, ap, sym, ◌∙◌}
 use Rattle.case_model.specs.declared.cases.Case.{Case}
-use Rattle.case_rules.specs.Said.{lines_of}
+use Rattle.case_lines.specs.Texts.{lines_of}
 use Rattle.case_writing.specs.CaseText.{case_text}
 use Rattle.round_trip.specs.Lines.{case_lines}
 use Rattle.round_trip.specs.Writable.{IsWritable}

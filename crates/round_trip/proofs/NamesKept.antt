@@ -21,13 +21,11 @@ use Rattle.case_rules.specs.Said.{line_at, said, named_by, is_some_part, is_defi
 use Rattle.case_rules.specs.Among.{line_rules}
 use Rattle.case_rules.specs.Counts.{is_table, is_node, is_pipe}
 use Rattle.netfile.specs.Built.{case_of, tables_of, nodes_of, pipes_of}
-use Rattle.netfile.proofs.FieldLimits.{IsKept, kept_at}
-use Rattle.netfile.proofs.NamesOnce.{name_once}
+use Rattle.netfile.proofs.FieldLimits.{IsKept, kept_at, new_name, short_name, name_once}
 use Rattle.round_trip.specs.Writable.{IsNameText, AreApart, case_names}
 use Rattle.round_trip.proofs.Apart.{AreNew, apart_append, new_of_both}
 use Rattle.round_trip.proofs.NamesGiven.{names_by, table_names, node_names, pipe_names, AreOnce, AreDefining, all_given, apart_given, new_given}
-use Rattle.netfile.proofs.Naming.{new_name, short_name}
-use Rattle.netfile.proofs.TableNames.{false_true, before_no, some_directive, definition_of, name_of, directive_of_definition, name_free, only_one}
+use Rattle.netfile.proofs.TableLimits.{false_true, before_no, some_directive, definition_of, name_of, directive_of_definition, name_free, only_one}
 
 abbrev AreParts : (Option Directive → Bool) → Type 0
 AreParts p = (o : Option Directive) → p o ≡ true → is_some_part (named_by o) ≡ true

@@ -4,7 +4,7 @@ ghost use Rattle.std.specs.List.{flat_map, list_all};
 ghost use Rattle.fixed_num.specs.Decimal.{number_of};
 ghost use Rattle.fixed_num.specs.Written.{written};
 ghost use Rattle.case_model.specs.declared.cases.Case.{Case};
-ghost use Rattle.case_rules.specs.Said.{lines_of};
+ghost use Rattle.case_lines.specs.Texts.{lines_of};
 ghost use Rattle.surge_io.specs.Fields.{line_of};
 ghost use Rattle.case_writing.specs.CaseText.{case_text};
 ghost use Rattle.round_trip.specs.Lines.{case_lines};

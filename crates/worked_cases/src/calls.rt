@@ -1,5 +1,5 @@
 //! The calls that rows are about.
-use case_lines::{fields_of, judge_line};
+use case_lines::{judge_line, line_of};
 use netfile::{read_case, write_case};
 use regionrun::OpenGate;
 use std::alloc::{AllocError, Global};
@@ -48,8 +48,8 @@ pub(crate) fn rule(
     line: &[u8],
 ) -> Result<u64, AllocError> {
     let version = if version == 1 { 1 } else { 2 };
-    let fields = fields_of(alloc, line)?;
-    match judge_line(version, number, &fields) {
+    let line = line_of(alloc, line)?;
+    match judge_line(version, number, &line) {
         Some(rule) => Ok(rule as u64),
         None => Ok(0),
     }

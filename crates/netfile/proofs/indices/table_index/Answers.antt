@@ -1,8 +1,0 @@
-use Rattle.std.proofs.Common.{ap, ◌∙◌, ℕ, Option}
-use Rattle.std.specs.Option.{unwrap_or}
-use Rattle.netfile.specs.Built.{table_index}
-use Rattle.netfile.proofs.indices.table_index.Goals as goal
-
-pub returns : goal.returns
-unfolding table_index
-returns c = λ tables m. c.unwrap_or.ensures ∙ ap (λ (o : Option ℕ). unwrap_or o 0) (c.copied.ensures ∙ c.get.ensures.value ∙ m c.args.name)
