@@ -6,8 +6,9 @@ use Rattle.std.specs.Str.{bytes_eq}
 use Rattle.case_lines.specs.declared.words.Single.{Single}
 use Rattle.case_lines.specs.Fields.{field}
 use Rattle.case_rules.specs.Said.{said, is_some_part, named_by, is_definition, defines, is_single, is_single_of}
-use Rattle.case_rules.specs.Known.{or_first, is_every, is_named, names_such, index_from, is_earlier, single_in, single_word, single_from, line_told}
+use Rattle.case_rules.specs.Known.{is_every, is_named, names_such, index_from, is_earlier, single_in, single_word, single_from, line_told}
 use Rattle.case_rules.proofs.SingleWords.{is_single_in, word_in}
+use Rattle.std.specs.Option.{option_or}
 
 later : (b : Bool) (m n : ℕ) (o : Option ℕ) → m ≤ n → is_earlier m o ≡ false → is_earlier m (cond b (Some n) o) ≡ false
 later true m n o h e = le-ltb n m h
@@ -49,7 +50,7 @@ named_defines name fields = and_more (is_some_part (named_by (said fields))) (na
 pub name_earlier : (name : List ℕ) (k : ℕ) (lines : List (List (List ℕ))) → is_earlier k (index_from is_every (names_such is_named name) 0 lines) ≡ list_any (defines name) (take k lines)
 name_earlier name k lines = ap (is_earlier k) (index_same (names_such is_named name) (defines name) (named_defines name) 0 lines) ∙ earlier_first (defines name) k lines
 
-told_more : (b : Bool) (n : ℕ) (text : List ℕ) (o : Option (ℕ × List ℕ)) (i : Option ℕ) → line_told o ≡ i → line_told (or_first (cond b (Some (n, text)) None) o) ≡ cond b (Some n) i
+told_more : (b : Bool) (n : ℕ) (text : List ℕ) (o : Option (ℕ × List ℕ)) (i : Option ℕ) → line_told o ≡ i → line_told (option_or (cond b (Some (n, text)) None) o) ≡ cond b (Some n) i
 told_more true n text o i e = refl
 told_more false n text o i e = e
 

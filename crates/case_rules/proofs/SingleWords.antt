@@ -15,6 +15,7 @@ use Rattle.case_lines.specs.Fields.{field}
 use Rattle.case_lines.specs.Words.{single_of, table_of, node_of, single_or_other, table_or_other, node_or_other, directive_of}
 use Rattle.case_rules.specs.Said.{said, is_single_directive, is_single, is_single_of}
 use Rattle.case_rules.specs.Known.{single_in, single_word, same_single}
+use Rattle.case_model.proofs.ListFacts.{same-tests}
 
 -- the test of a word among the seven
 abbrev pick : Bool → Bool → Bool → Bool → Bool → Bool → Bool → Single → Bool
@@ -79,14 +80,9 @@ unfolding directive_of single_of
 word_says Step = refl
 word_says _ = refl
 
-same : (a b : Bool) → (a ≡ true → b ≡ true) → (b ≡ true → a ≡ true) → a ≡ b
-same true b f g = sym (f refl)
-same false true f g = g refl
-same false false f g = refl
-
 -- two of them have one word where they are the same
 words_apart : (s t : Single) → bytes_eq (single_word s) (single_word t) ≡ same_single s t
-words_apart s t = same _ _
+words_apart s t = same-tests _ _
     (λ h. let e : Some s ≡ Some t = let w = ap directive_of ((bytes_eq-Decides (single_word s) (single_word t)).0 h) in let a = word_says s in let b = word_says t in cc in true_same the_type s t (let i : s ≡ t = cc in i))
     (λ h. (bytes_eq-Decides (single_word s) (single_word t)).1 (ap single_word (same_true the_type tt s t h)))
 

@@ -14,9 +14,11 @@ use Rattle.case_rules.specs.declared.tally.Counts.{Counts}
 use Rattle.case_rules.specs.declared.tally.Tally.{Tally}
 use Rattle.case_rules.specs.Said.{version_of, said, defines_part}
 use Rattle.case_rules.specs.Counts.{is_table, is_node, is_pipe, is_sampled, count_of, is_incomplete, is_too_large, count_rules}
-use Rattle.case_rules.specs.Known.{same_bytes, same_key, or_first, or_index, one_if, is_every, is_named, names_such, index_from, single_here, single_from, given_at, lacks_single}
+use Rattle.case_rules.specs.Known.{same_bytes, same_key, or_index, one_if, is_every, is_named, names_such, index_from, single_here, single_from, given_at, lacks_single}
 use Rattle.case_rules.specs.Tallies.{nothing, counted, IsFew, IsTally, IsAdded, IsTallied}
 use Rattle.case_rules.proofs.SinglesKept.{or_none, some_single}
+use Rattle.std.specs.Option.{option_or}
+use Rattle.case_model.proofs.ListFacts.{option_or-assoc}
 
 pub count_more : (p : Option Directive → Bool) (fields : List (List ℕ)) (lines : List (List (List ℕ))) → count_of p (fields ∷ lines) ≡ one_if (p (said fields)) + count_of p lines
 unfolding count_of
@@ -29,18 +31,14 @@ count_none p n m h = omega (arith, h)
 count_step : (p : Option Directive → Bool) (fields : List (List ℕ)) (lines : List (List (List ℕ))) (n m all : ℕ) → m ≡ n + one_if (p (said fields)) → n + count_of p (fields ∷ lines) ≡ all → m + count_of p lines ≡ all
 count_step p fields lines n m all e h = omega (arith, e, h, count_more p fields lines)
 
-moved : (old : Option ℕ) (b : Bool) (n : ℕ) (later : Option ℕ) → or_first (or_index old b n) later ≡ or_first old (cond b (Some n) later)
+moved : (old : Option ℕ) (b : Bool) (n : ℕ) (later : Option ℕ) → option_or (or_index old b n) later ≡ option_or old (cond b (Some n) later)
 moved (Some x) b n later = refl
 moved None true n later = refl
 moved None false n later = refl
 
 index_step : (counts : Option Directive → Bool) (test : List (List ℕ) → Bool) (n m : ℕ) (fields : List (List ℕ)) (rest : List (List (List ℕ))) (old new all : Option ℕ) → new ≡ or_index old (test fields) n → m ≡ n + one_if (counts (said fields))
-    → or_first old (index_from counts test n (fields ∷ rest)) ≡ all → or_first new (index_from counts test m rest) ≡ all
+    → option_or old (index_from counts test n (fields ∷ rest)) ≡ all → option_or new (index_from counts test m rest) ≡ all
 index_step counts test n m fields rest old new all e k h = rw (e, k) (moved old (test fields) n (index_from counts test (n + one_if (counts (said fields))) rest) ∙ h)
-
-or_more : {X : Type 0} (a b c : Option X) → or_first (or_first a b) c ≡ or_first a (or_first b c)
-or_more None b c = refl
-or_more (Some x) b c = refl
 
 or_moved : (a b c : Bool) → ((b || a) || c) ≡ (a || (b || c))
 or_moved true true c = refl
@@ -86,7 +84,7 @@ tallied_more t u fields rest all a h =
       tables = λ name. index_step is_table (names_such is_table name.now) t.counts.tables u.counts.tables fields rest (get same_bytes t.tables name) (get same_bytes u.tables name) _ (a.tables name) tables (h.tables name);
       nodes = λ name. index_step is_node (names_such is_node name.now) t.counts.nodes u.counts.nodes fields rest (get same_bytes t.nodes name) (get same_bytes u.nodes name) _ (a.nodes name) nodes (h.nodes name);
       pipes = λ name. index_step is_pipe (names_such is_pipe name.now) t.counts.pipes u.counts.pipes fields rest (get same_bytes t.pipes name) (get same_bytes u.pipes name) _ (a.pipes name) pipes (h.pipes name);
-      singles = λ s. rw (a.singles s, lines) (or_more (given_at t.singles.items s) (single_here s t.counts.lines fields) (single_from s (t.counts.lines + 1) rest) ∙ h.singles s);
+      singles = λ s. rw (a.singles s, lines) (option_or-assoc (given_at t.singles.items s) (single_here s t.counts.lines fields) (single_from s (t.counts.lines + 1) rest) ∙ h.singles s);
       table_count = count_step is_table fields rest t.counts.tables u.counts.tables _ tables h.table_count;
       node_count = count_step is_node fields rest t.counts.nodes u.counts.nodes _ nodes h.node_count;
       pipe_count = count_step is_pipe fields rest t.counts.pipes u.counts.pipes _ pipes h.pipe_count;

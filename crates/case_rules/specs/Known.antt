@@ -4,7 +4,7 @@ use Rattle.std.specs.Prelude.{Some, None, if◌then◌else◌, List, [], ◌∷�
 use Rattle.std.specs.List.{list_any}
 use Rattle.std.specs.HashMap.{HashMap, get}
 use Rattle.std.specs.HashSet.{HashSet, contains}
-use Rattle.std.specs.Option.{is_some}
+use Rattle.std.specs.Option.{is_some, option_or}
 use Rattle.std.specs.Str.{bytes_eq}
 use denote.Ref.{Bor}
 use denote.Enum.Bare.{sameb}
@@ -32,11 +32,6 @@ abbrev pub AreNames : {S : Type 0} → HashSet (Part × Bor (List ℕ)) S → Li
 AreNames names lines =
     (part : Part) (name : Bor (List ℕ))
     → contains same_key names (part, name) ≡ list_any (defines_part part name.now) lines
-
--- the first of two where it is there, or else the second
-abbrev pub or_first : {X : Type 0} → Option X → Option X → Option X
-or_first (Some x) later = Some x
-or_first None later = later
 
 -- an index that is there already, or else a new one where a test passes
 abbrev pub or_index : Option ℕ → Bool → ℕ → Option ℕ
@@ -109,7 +104,7 @@ single_here single before fields =
 abbrev pub single_from : Single → ℕ → List (List (List ℕ)) → Option (ℕ × List ℕ)
 single_from single before [] = None
 single_from single before (fields ∷ more) =
-    or_first (single_here single before fields) (single_from single (before + 1) more)
+    option_or (single_here single before fields) (single_from single (before + 1) more)
 
 -- what is kept of a single directive
 abbrev pub given_at : List Given → Single → Option (ℕ × List ℕ)

@@ -11,9 +11,10 @@ use Rattle.case_rules.specs.declared.tally.Counts.{Counts}
 use Rattle.case_rules.specs.declared.tally.Tally.{Tally}
 use Rattle.case_rules.specs.Said.{version_of, said, defines_part}
 use Rattle.case_rules.specs.Counts.{is_table, is_node, is_pipe, is_sampled, count_of}
-use Rattle.case_rules.specs.Known.{same_bytes, same_key, AreNames, or_first, or_index, one_if}
+use Rattle.case_rules.specs.Known.{same_bytes, same_key, AreNames, or_index, one_if}
 use Rattle.case_rules.specs.Known.{is_every, is_named, names_such, index_from, AreIndexed}
 use Rattle.case_rules.specs.Known.{single_here, single_from, given_at, AreSingles}
+use Rattle.std.specs.Option.{option_or}
 
 -- nothing is counted
 abbrev pub nothing : Counts
@@ -74,14 +75,14 @@ pub record IsAdded (old new : Tally) (fields : List (List ℕ)) : Type 0 where
   pub nodes : IsNameAdded old.nodes new.nodes is_node old.counts.nodes fields
   pub pipes : IsNameAdded old.pipes new.pipes is_pipe old.counts.pipes fields
   pub singles : (single : Single) → given_at new.singles.items single
-      ≡ or_first (given_at old.singles.items single) (single_here single old.counts.lines fields)
+      ≡ option_or (given_at old.singles.items single) (single_here single old.counts.lines fields)
 
 -- a map and the lines that are left give what all lines give
 abbrev pub IsRestIndexed : {S : Type 0} → HashMap (Bor (List ℕ)) ℕ S → (Option Directive → Bool)
     → (Option Directive → Bool) → ℕ → List (List (List ℕ)) → List (List (List ℕ)) → Type 0
 IsRestIndexed indices counts is_such before rest all =
     (name : Bor (List ℕ))
-    → or_first (get same_bytes indices name)
+    → option_or (get same_bytes indices name)
     (index_from counts (names_such is_such name.now) before rest)
     ≡ index_from counts (names_such is_such name.now) 0 all
 
@@ -95,7 +96,7 @@ pub record IsTallied (tally : Tally) (rest all : List (List (List ℕ))) : Type 
   pub tables : IsRestIndexed tally.tables is_table is_table tally.counts.tables rest all
   pub nodes : IsRestIndexed tally.nodes is_node is_node tally.counts.nodes rest all
   pub pipes : IsRestIndexed tally.pipes is_pipe is_pipe tally.counts.pipes rest all
-  pub singles : (single : Single) → or_first (given_at tally.singles.items single)
+  pub singles : (single : Single) → option_or (given_at tally.singles.items single)
       (single_from single tally.counts.lines rest) ≡ single_from single 0 all
   pub table_count : tally.counts.tables + count_of is_table rest ≡ count_of is_table all
   pub node_count : tally.counts.nodes + count_of is_node rest ≡ count_of is_node all

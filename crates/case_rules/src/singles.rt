@@ -1,9 +1,10 @@
 //! The single directives of a text: where each first stands, and what it gives.
 ghost use Rattle.std.specs.Prelude.{◌≡◌, IfOk};
 ghost use Rattle.case_lines.specs.declared.words.Single.{Single};
+ghost use Rattle.std.specs.Option.{option_or};
 ghost use Rattle.case_rules.specs.Known.{given_at, told};
 ghost use Rattle.case_rules.specs.Known.{line_told, text_told, seen};
-ghost use Rattle.case_rules.specs.Known.{or_first, single_here, single_in as single_of_directive};
+ghost use Rattle.case_rules.specs.Known.{single_here, single_in as single_of_directive};
 
 use crate::parts::said;
 use case_lines::{Directive, Line, Single};
@@ -60,7 +61,7 @@ pub(crate) fn add_single<'a>(
 ) -> Result<(), AllocError>
     ensures { IfOk result (λ u. (single : Single) →
         given_at singles.new.items single
-        ≡ or_first (given_at singles.old.items single)
+        ≡ option_or (given_at singles.old.items single)
         (single_here single before line.now)) }
 {
     if let Some(single) = single_in(said(line)) {

@@ -1,24 +1,24 @@
 -- The first Bad noting of two maps together.
 use Rattle.std.proofs.Common.{◌≡◌, ◌∙◌, ℕ, ◌<◌, ◌≤◌, ◌⊎◌, inl, inr, refl, sym, subst, true, false, List, Option, Some, None, arith}
 use Rattle.envelope.specs.Cells.{is_within}
-use Rattle.envelope.specs.Extremes.{first_of}
 use Rattle.envelope.specs.Faults.{IsFirstBad, HasFault, IsEarlier}
 use Rattle.envelope.specs.Notings.{Noting, Noted, Agree, union, is_bad_noting}
+use Rattle.std.specs.Option.{option_or}
 
-bad-first : (a b : Option Noting) → is_bad_noting a ≡ true → is_bad_noting (first_of a b) ≡ true
+bad-first : (a b : Option Noting) → is_bad_noting a ≡ true → is_bad_noting (option_or a b) ≡ true
 bad-first None b h = cc
 bad-first (Some x) b h = h
 
-bad-second : (a b : Option Noting) → ((x y : Noting) → a ≡ Some x → b ≡ Some y → x ≡ y) → is_bad_noting b ≡ true → is_bad_noting (first_of a b) ≡ true
+bad-second : (a b : Option Noting) → ((x y : Noting) → a ≡ Some x → b ≡ Some y → x ≡ y) → is_bad_noting b ≡ true → is_bad_noting (option_or a b) ≡ true
 bad-second None b h e = e
 bad-second (Some x) None h e = cc
 bad-second (Some x) (Some y) h e = subst (λ z. is_bad_noting (Some z) ≡ true) (sym (h x y refl refl)) e
 
-bad-either : (a b : Option Noting) → is_bad_noting (first_of a b) ≡ true → (is_bad_noting a ≡ true) ⊎ (is_bad_noting b ≡ true)
+bad-either : (a b : Option Noting) → is_bad_noting (option_or a b) ≡ true → (is_bad_noting a ≡ true) ⊎ (is_bad_noting b ≡ true)
 bad-either None b h = inr h
 bad-either (Some x) b h = inl h
 
-good-both : (a b : Option Noting) → is_bad_noting a ≡ false → is_bad_noting b ≡ false → is_bad_noting (first_of a b) ≡ false
+good-both : (a b : Option Noting) → is_bad_noting a ≡ false → is_bad_noting b ≡ false → is_bad_noting (option_or a b) ≡ false
 good-both None b h k = k
 good-both (Some x) b h k = h
 

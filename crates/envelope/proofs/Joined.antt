@@ -3,15 +3,16 @@ use Rattle.std.proofs.Common.{◌≡◌, ◌∙◌, ℕ, ◌≤◌, ℤ, refl, s
 use Rattle.std.specs.Prelude.{◌≤ℤ◌, IfSome}
 use Rattle.std.proofs.lemmas.Int.{ints}
 use Rattle.case_model.specs.Samples.{Sample, head_of, volume_of, IsGreatest, IsSmallest}
-use Rattle.envelope.specs.Extremes.{first_of, either, AgreeAlong, HasExtreme, IsEnvelopeOf}
+use Rattle.envelope.specs.Extremes.{either, AgreeAlong, HasExtreme, IsEnvelopeOf}
 use Rattle.envelope.specs.declared.extremes.Extreme.{Extreme}
 use Rattle.envelope.proofs.Greatest.{same-greatest, same-smallest}
+use Rattle.std.specs.Option.{option_or}
 
-pub head-either : (a b : Option Sample) → first_of (head_of a) (head_of b) ≡ head_of (first_of a b)
+pub head-either : (a b : Option Sample) → option_or (head_of a) (head_of b) ≡ head_of (option_or a b)
 head-either (Some x) b = refl
 head-either None b = refl
 
-pub volume-either : (a b : Option Sample) → first_of (volume_of a) (volume_of b) ≡ volume_of (first_of a b)
+pub volume-either : (a b : Option Sample) → option_or (volume_of a) (volume_of b) ≡ volume_of (option_or a b)
 volume-either (Some x) b = refl
 volume-either None b = refl
 

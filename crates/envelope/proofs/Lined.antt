@@ -8,7 +8,6 @@ use Rattle.case_model.specs.declared.points.Point.{Point}
 use Rattle.case_model.specs.declared.points.Point.TheVariants.{Bad}
 use Rattle.envelope.specs.Cells.{is_within, bases_of, cell_of, span_of, first_of_span, IsRising, IsLaidOut, IsPlaced, AreInSpan, AreInOneSpan}
 use Rattle.envelope.proofs.CellLaws.{within-span}
-use Rattle.envelope.specs.Extremes.{first_of}
 use Rattle.envelope.specs.Folds.{IsSameFold, spans_of, steps_of}
 use Rattle.envelope.specs.Layout.{IsHeld, cell_in, count_of_cells}
 use Rattle.envelope.specs.Notings.{Noting, Noted, only, noted, line_noted, union, Agree}
@@ -19,6 +18,8 @@ use Rattle.envelope.proofs.Placed.{placed, at-most, laid-out}
 use Rattle.envelope.proofs.RowFolds.{held-same}
 use Rattle.envelope.proofs.Sampled.{alone}
 use Rattle.fixed_num.proofs.Between.{le_or_more}
+use Rattle.std.specs.Option.{option_or}
+use Rattle.case_model.proofs.ListFacts.{option_or-assoc}
 
 -- ---- the cells of places of one span
 
@@ -103,7 +104,7 @@ pub where-stands : (k next : ℕ) → (k < next) ⊎ ((k ≡ next) ⊎ (next < k
 where-stands k next = grind arith
 
 next-point : (step first i : ℕ) (points : List Point) (d : Point) (s k : ℕ) → i < length points
-    → first_of (part step first i points s k) (only step (first + i) (OfPoint (get_or points i d)) s k) ≡ part step first (i + 1) points s k
+    → option_or (part step first i points s k) (only step (first + i) (OfPoint (get_or points i d)) s k) ≡ part step first (i + 1) points s k
 next-point step first i points d s k h =
     let x = OfPoint (get_or points i d) in
     elim (cases_eq s step) [
@@ -115,27 +116,23 @@ next-point step first i points d s k h =
         ]
         | inr m ↦ elim m [
           | inl q ↦
-              ap (λ a. first_of a (only step (first + i) x s k)) (part-past step first i points s k (omega arith))
+              ap (λ a. option_or a (only step (first + i) x s k)) (part-past step first i points s k (omega arith))
               ∙ ap (λ u. only step (first + i) x u k) e ∙ ap (λ u. only step (first + i) x step u) q ∙ only-here step (first + i) x
               ∙ sym (part-at step first (i + 1) points s k e (omega arith) (omega arith)
               ∙ (let j : k - first ≡ i = omega arith in ap (λ j. Some (OfPoint (get_or points j Bad))) j) ∙ ap (λ y. Some (OfPoint y)) (get_or_default points i Bad d h))
           | inr q ↦
-              ap (λ a. first_of a (only step (first + i) x s k)) (part-past step first i points s k (omega arith))
+              ap (λ a. option_or a (only step (first + i) x s k)) (part-past step first i points s k (omega arith))
               ∙ only-there step (first + i) x s k (λ r. omega arith) ∙ sym (part-past step first (i + 1) points s k (omega arith))
         ]
       ]
     ]
 
-pub assoc : {X : Type 0} (a b c : Option X) → first_of (first_of a b) c ≡ first_of a (first_of b c)
-assoc None b c = refl
-assoc (Some x) b c = refl
-
 pub line-more : (map : Noted) (step first i : ℕ) (points : List Point) (d : Point) (s k : ℕ) → i < length points
     → noted (union map (part step first i points)) step (first + i) (OfPoint (get_or points i d)) s k ≡ union map (part step first (i + 1) points) s k
 line-more map step first i points d s k h =
-    assoc (map s k) (part step first i points s k) (only step (first + i) (OfPoint (get_or points i d)) s k) ∙ ap (λ a. first_of (map s k) a) (next-point step first i points d s k h)
+    option_or-assoc (map s k) (part step first i points s k) (only step (first + i) (OfPoint (get_or points i d)) s k) ∙ ap (λ a. option_or (map s k) a) (next-point step first i points d s k h)
 
-pub same-first : (a b : Option Noting) (x : Noting) → b ≡ None → first_of a b ≡ Some x → a ≡ Some x
+pub same-first : (a b : Option Noting) (x : Noting) → b ≡ None → option_or a b ≡ Some x → a ≡ Some x
 same-first None b x n e = sym n ∙ e
 same-first (Some y) b x n e = e
 
@@ -172,7 +169,7 @@ held-on fold map step first i points d h p =
 pub held-whole : (fold : Fold) (map : Noted) (step first i : ℕ) (points : List Point) → i ≡ length points → IsHeld fold (union map (part step first i points)) → IsHeld fold (union map (line_noted step first points))
 held-whole fold map step first i points e p =
     held-same fold (union map (part step first i points)) (union map (line_noted step first points))
-    (λ s k l w. ap (λ n. first_of (map s k) (part step first n points s k)) e ∙ ap (λ a. first_of (map s k) a) (whole-line step first points s k)) p
+    (λ s k l w. ap (λ n. option_or (map s k) (part step first n points s k)) e ∙ ap (λ a. option_or (map s k) a) (whole-line step first points s k)) p
 
 -- ---- the cells of a fold in which the first points were noted
 

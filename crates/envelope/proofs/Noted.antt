@@ -4,7 +4,7 @@ use Rattle.std.specs.Prelude.{◌==◌, ◌&&◌, if◌then◌else◌}
 use Rattle.std.proofs.Math.Bool.{and-false}
 use Rattle.case_model.specs.Samples.{Sample}
 use Rattle.envelope.specs.Cells.{is_within, bases_of}
-use Rattle.envelope.specs.Extremes.{first_of, either, AgreeAlong}
+use Rattle.envelope.specs.Extremes.{either, AgreeAlong}
 use Rattle.envelope.specs.Changes.{IsKeptAt, IsSameLayout}
 use Rattle.envelope.specs.Folds.{spans_of, steps_of}
 use Rattle.envelope.specs.Layout.{StandsAt, IsHeld, marks_in, lines_in}
@@ -15,6 +15,7 @@ use Rattle.envelope.proofs.FirstBad.{first-alone, second-alone}
 use Rattle.envelope.proofs.Sampled.{alone}
 use Rattle.envelope.proofs.Standing.{same-standing}
 use Rattle.std.proofs.lemmas.Bool.{cases_eq}
+use Rattle.std.specs.Option.{option_or}
 
 pub only-here : (step place : ℕ) (x : Noting) → only step place x step place ≡ Some x
 only-here step place x = rw (eq-eqb step step refl, eq-eqb place place refl) refl
@@ -25,17 +26,17 @@ only-then step place x s k h = rw (ne_eqb s step h) refl
 pub only-there : (step place : ℕ) (x : Noting) (s k : ℕ) → k ≢ place → only step place x s k ≡ None
 only-there step place x s k h = rw (ne_eqb k place h, and-false) refl
 
-same-twice : {X : Type 0} (a : Option X) → a ≡ first_of a a
+same-twice : {X : Type 0} (a : Option X) → a ≡ option_or a a
 same-twice None = refl
 same-twice (Some x) = refl
 
-taken-twice : (x : Noting) → taken (Some x) ≡ first_of (taken (Some x)) (taken (Some x))
+taken-twice : (x : Noting) → taken (Some x) ≡ option_or (taken (Some x)) (taken (Some x))
 taken-twice x = same-twice (taken (Some x))
 
-pub taken-either : (a b : Option Noting) → ((x y : Noting) → a ≡ Some x → b ≡ Some y → x ≡ y) → first_of (taken a) (taken b) ≡ taken (first_of a b)
+pub taken-either : (a b : Option Noting) → ((x y : Noting) → a ≡ Some x → b ≡ Some y → x ≡ y) → option_or (taken a) (taken b) ≡ taken (option_or a b)
 taken-either None b h = refl
 taken-either (Some x) None h = alone (taken (Some x)) None refl
-taken-either (Some x) (Some y) h = ap (λ z. first_of (taken (Some x)) (taken (Some z))) (sym (h x y refl refl)) ∙ sym (taken-twice x)
+taken-either (Some x) (Some y) h = ap (λ z. option_or (taken (Some x)) (taken (Some z))) (sym (h x y refl refl)) ∙ sym (taken-twice x)
 
 taken-agrees : (a b : Option Noting) → ((x y : Noting) → a ≡ Some x → b ≡ Some y → x ≡ y) → (s t : Sample) → taken a ≡ Some s → taken b ≡ Some t → s ≡ t
 taken-agrees None b h s t p q = cc
@@ -46,7 +47,7 @@ pub columns-agree : (map more : Noted) (k : ℕ) → Agree map more → AgreeAlo
 columns-agree map more k h = λ s. taken-agrees (map s k) (more s k) (h s k)
 
 -- with nothing taken of a place more, what is taken of it is the same
-pub nothing-more : (a b : Option Noting) → ((x y : Noting) → a ≡ Some x → b ≡ Some y → x ≡ y) → taken b ≡ None → taken a ≡ taken (first_of a b)
+pub nothing-more : (a b : Option Noting) → ((x y : Noting) → a ≡ Some x → b ≡ Some y → x ≡ y) → taken b ≡ None → taken a ≡ taken (option_or a b)
 nothing-more a b h e = sym (alone (taken a) (taken b) e) ∙ taken-either a b h
 
 pub fault-kept : (spans : List (ℕ × ℕ)) (last : ℕ) (map more : Noted) (a : Option (ℕ × ℕ)) → Agree map more → HasFault spans last map a → HasFault spans last more None → HasFault spans last (union map more) a

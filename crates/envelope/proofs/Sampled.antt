@@ -5,18 +5,19 @@ use Rattle.std.proofs.lemmas.List.{get_or_read}
 use Rattle.std.proofs.Math.Nat.{mul-mod_left, mod-eq-sub-div-mul, div-mul-le_self}
 use Rattle.case_model.specs.Samples.{Sample}
 use Rattle.envelope.specs.Cells.{is_within, cell_of, span_of, first_of_span, IsRising, IsLaidOut}
-use Rattle.envelope.specs.Extremes.{first_of, either, AgreeAlong}
+use Rattle.envelope.specs.Extremes.{either, AgreeAlong}
 use Rattle.envelope.specs.Lines.{told, HasSamples, IsMarked}
 use Rattle.envelope.specs.declared.samples.Sample.{Sample as Kept}
 use Rattle.envelope.proofs.Placed.{placed}
 use Rattle.std.proofs.lemmas.Bool.{cases_eq}
 use Rattle.fixed_num.proofs.Between.{le_or_more}
+use Rattle.std.specs.Option.{option_or}
 
-pub alone : {X : Type 0} (a b : Option X) → b ≡ None → first_of a b ≡ a
+pub alone : {X : Type 0} (a b : Option X) → b ≡ None → option_or a b ≡ a
 alone (Some x) b h = refl
 alone None b h = h
 
-second-known : {X : Type 0} (a b : Option X) (x : X) → ((y z : X) → a ≡ Some y → b ≡ Some z → y ≡ z) → b ≡ Some x → first_of a b ≡ Some x
+second-known : {X : Type 0} (a b : Option X) (x : X) → ((y z : X) → a ≡ Some y → b ≡ Some z → y ≡ z) → b ≡ Some x → option_or a b ≡ Some x
 second-known None b x h e = e
 second-known (Some y) b x h e = ap (λ z. Some z) (h y x refl e)
 

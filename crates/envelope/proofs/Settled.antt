@@ -10,14 +10,15 @@ use Rattle.case_model.specs.Runs.{calm_at, calm_point}
 use Rattle.case_model.proofs.Running.{calm_spot}
 use Rattle.case_model.specs.Samples.{head_of, volume_of, IsGreatest, IsSmallest}
 use Rattle.envelope.specs.Calm.{IsSettled, Joins}
-use Rattle.envelope.specs.Extremes.{first_of, either, unmet}
+use Rattle.envelope.specs.Extremes.{either, unmet}
 use Rattle.envelope.specs.declared.extremes.Extreme.{Extreme}
 use Rattle.envelope.proofs.Greatest.{same-greatest, same-smallest}
 use Rattle.envelope.proofs.Joined.{head-either, volume-either, met}
 use Rattle.envelope.proofs.Sampled.{alone}
 use Rattle.std.proofs.lemmas.Bool.{cases_eq}
+use Rattle.std.specs.Option.{option_or}
 
-bounded : (a b : Option ℤ) (P : ℤ → Type 0) → IfSome a P → IfSome b P → IfSome (first_of a b) P
+bounded : (a b : Option ℤ) (P : ℤ → Type 0) → IfSome a P → IfSome b P → IfSome (option_or a b) P
 bounded None b P h k = k
 bounded (Some x) b P h k = h
 
@@ -29,7 +30,7 @@ no-bound : (b : Option ℤ) (P : ℤ → Type 0) → b ≡ None → IfSome b P
 no-bound None P e = tt
 no-bound (Some z) P e = cc
 
-first-stands : (a b : Option ℤ) (x : ℤ) → a ≡ Some x → first_of a b ≡ Some x
+first-stands : (a b : Option ℤ) (x : ℤ) → a ≡ Some x → option_or a b ≡ Some x
 first-stands (Some y) b x e = e
 first-stands None b x e = cc
 

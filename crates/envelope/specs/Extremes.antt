@@ -3,15 +3,11 @@ use Rattle.std.specs.Prelude.{◌≡◌, ℕ, zero, suc, ◌≤◌, ℤ, pos, ne
 use Rattle.std.specs.Prelude.{if◌then◌else◌, Option, Some, None}
 use Rattle.case_model.specs.Samples.{Sample, head_of, volume_of, IsGreatest, IsSmallest}
 use Rattle.envelope.specs.declared.extremes.Extreme.{Extreme}
-
--- the first where it is there, else the second
-abbrev pub first_of : {X : Type 0} → Option X → Option X → Option X
-first_of (Some x) other = Some x
-first_of None other = other
+use Rattle.std.specs.Option.{option_or}
 
 -- at each step what either has
 abbrev pub either : {X : Type 0} → (ℕ → Option X) → (ℕ → Option X) → ℕ → Option X
-either f g step = first_of (f step) (g step)
+either f g step = option_or (f step) (g step)
 
 -- where both have a value it is the same
 abbrev pub AgreeAlong : {X : Type 0} → (ℕ → Option X) → (ℕ → Option X) → Type 0

@@ -7,7 +7,7 @@ use Rattle.case_model.specs.declared.states.NodeState.{NodeState}
 use Rattle.case_model.specs.Places.{is_bad, is_bad_state}
 use Rattle.case_model.specs.Samples.{Sample, point_sample, node_sample}
 use Rattle.envelope.specs.Cells.{is_within}
-use Rattle.envelope.specs.Extremes.{first_of}
+use Rattle.std.specs.Option.{option_or}
 
 -- a point of a pipe's place, or a node's state
 pub data Noting : Type 0 where
@@ -31,7 +31,7 @@ Agree map more = (s k : ℕ) (x y : Noting) → map s k ≡ Some x → more s k 
 
 -- what either of two maps has; they are to agree
 abbrev pub union : Noted → Noted → Noted
-union map more s k = first_of (map s k) (more s k)
+union map more s k = option_or (map s k) (more s k)
 
 -- a map with one noting more
 abbrev pub noted : Noted → ℕ → ℕ → Noting → Noted

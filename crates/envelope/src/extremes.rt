@@ -180,6 +180,7 @@ pub(crate) fn join_cell(cells: &mut Vec<Extreme>, cell: usize, other: &Extreme)
 
 /// Joins points without a cavity, taken at one step, to the cells from `first` on. Mostly nothing
 /// changes, and nothing is written.
+#[inline(always)]
 pub(crate) fn join_spots(cells: &mut [Extreme], first: usize, step: u64, spots: &[Spot])
     requires { first + length spots.now ≤ length cells.old }
     ensures here { (i : ℕ) → i < length spots.now →

@@ -125,6 +125,7 @@ impl Fold {
 
     /// Takes in points without a cavity, of places that follow one another, of which `first` is the
     /// first. A step past the last changes nothing.
+    #[inline(always)]
     pub fn note_calm(&mut self, step: u64, first: u64, spots: &[Spot])
         requires { AreInOneSpan (spans_of self.old) first (length spots.now) }
         ensures stands { (noted : Noted) → Stands self.old noted →
@@ -243,6 +244,7 @@ impl Fold {
 
     /// Takes in points without a cavity, one at least, at a step up to the last. Mostly they change
     /// nothing, so the cells are looked at in a loop of their own.
+    #[inline(always)]
     fn note_spots(&mut self, step: u64, first: u64, spots: &[Spot])
         requires step { step ≤ steps_of self.old }
         requires some { 0 < length spots.now }

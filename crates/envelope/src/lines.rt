@@ -4,7 +4,8 @@ ghost use Rattle.std.specs.Prelude.{length, replicate, slice_index, slice_index_
 ghost use Rattle.std.specs.Prelude.{Option, Some, None, IfOk};
 ghost use Rattle.case_model.specs.Samples.{Sample as Taken};
 ghost use Rattle.envelope.specs.Cells.{IsRising, bases_of};
-ghost use Rattle.envelope.specs.Extremes.{AgreeAlong, either, first_of};
+ghost use Rattle.std.specs.Option.{option_or};
+ghost use Rattle.envelope.specs.Extremes.{AgreeAlong, either};
 ghost use Rattle.envelope.specs.Lines.{told, HasSamples, IsMarked, AreWithin, AreLines, AreBlank};
 
 use crate::Sample;
@@ -130,7 +131,7 @@ fn fill_gaps(line: &mut [Option<Sample>], other: &[Option<Sample>])
     requires { length other.now ≡ length line.old }
     ensures { (j : ℕ) → j < length line.old →
         told (slice_index_or line.new j None)
-        ≡ first_of (told (slice_index_or line.old j None))
+        ≡ option_or (told (slice_index_or line.old j None))
         (told (slice_index_or other.now j None)) }
 {
     for (index, sample) in other.iter().enumerate() {

@@ -96,6 +96,7 @@ pub(crate) fn keep_probed(
 }
 
 /// Keeps points without a cavity, taken at one step, in the lines of the cells from `first` on.
+#[inline(never)]
 pub(crate) fn keep_spots(
     probes: &mut Option<Box<Probes>>,
     first: usize,

@@ -8,7 +8,6 @@ use Rattle.case_model.specs.declared.points.Point.{Point}
 use Rattle.case_model.specs.declared.points.Point.TheVariants.{Bad}
 use Rattle.case_model.specs.declared.spots.Spot.{Spot}
 use Rattle.case_model.specs.Runs.{calm_at, calm_point}
-use Rattle.envelope.specs.Extremes.{first_of}
 use Rattle.envelope.specs.Notings.{Noting, Noted, line_noted, noted, only, union, Agree}
 use Rattle.envelope.specs.Notings.Noting.{OfPoint}
 use Rattle.envelope.proofs.Noted.{only-here, only-then, only-there}
@@ -17,8 +16,10 @@ use Rattle.fronts.specs.Noted.{run_noted}
 use Rattle.fronts.specs.Stretches.{count_of, is_even, kept, slot}
 use Rattle.fronts.proofs.Keeping.{kept-calm}
 use Rattle.fronts.proofs.Making.{part-at}
-use Rattle.envelope.proofs.Lined.{where-stands, assoc, same-first}
+use Rattle.envelope.proofs.Lined.{where-stands, same-first}
 use Rattle.envelope.proofs.Sampled.{alone}
+use Rattle.std.specs.Option.{option_or}
+use Rattle.case_model.proofs.ListFacts.{option_or-assoc}
 
 -- a number is before these, behind them or among them
 pub where-is : (k low high : ℕ) → (k < low) ⊎ ((high ≤ k) ⊎ ((low ≤ k) × (k < high)))
@@ -122,7 +123,7 @@ none-noted stretch step low s k = elim (where-is k (stretch.number + low) (stret
 ]
 
 run-more : (stretch : Stretch) (step low place s k : ℕ) → low ≤ place
-    → first_of (run_noted stretch step low place s k) (only step (stretch.number + place) (OfPoint (kept stretch step place)) s k) ≡ run_noted stretch step low (place + 1) s k
+    → option_or (run_noted stretch step low place s k) (only step (stretch.number + place) (OfPoint (kept stretch step place)) s k) ≡ run_noted stretch step low (place + 1) s k
 run-more stretch step low place s k l =
     let x = OfPoint (kept stretch step place) in
     let at = stretch.number + place in
@@ -144,12 +145,12 @@ run-more stretch step low place s k l =
             ]
         | inr a ↦ elim a [
           | inl q ↦
-              ap (λ o. first_of o (only step at x s k)) (run-before stretch step low place s k (inr (inr (omega arith))))
+              ap (λ o. option_or o (only step at x s k)) (run-before stretch step low place s k (inr (inr (omega arith))))
               ∙ ap (λ u. only step at x u k) e ∙ ap (only step at x step) q ∙ only-here step at x
               ∙ ap (λ i. Some (OfPoint (kept stretch step i))) (omega arith)
               ∙ sym (run-in stretch step low (place + 1) s k e (omega arith) (omega arith))
           | inr b ↦
-              ap (λ o. first_of o (only step at x s k)) (run-before stretch step low place s k (inr (inr (omega arith))))
+              ap (λ o. option_or o (only step at x s k)) (run-before stretch step low place s k (inr (inr (omega arith))))
               ∙ only-there step at x s k (λ q. absurd (omega arith))
               ∙ sym (run-before stretch step low (place + 1) s k (inr (inr (omega arith))))
         ]
@@ -160,8 +161,8 @@ pub noted-more : (map : Noted) (stretch : Stretch) (step low place s k : ℕ) �
     → noted (union map (run_noted stretch step low place)) step (stretch.number + place) (OfPoint (kept stretch step place)) s k
     ≡ union map (run_noted stretch step low (place + 1)) s k
 noted-more map stretch step low place s k l =
-    assoc (map s k) (run_noted stretch step low place s k) (only step (stretch.number + place) (OfPoint (kept stretch step place)) s k)
-    ∙ ap (first_of (map s k)) (run-more stretch step low place s k l)
+    option_or-assoc (map s k) (run_noted stretch step low place s k) (only step (stretch.number + place) (OfPoint (kept stretch step place)) s k)
+    ∙ ap (option_or (map s k)) (run-more stretch step low place s k l)
 
 pub noted-none : (map : Noted) (stretch : Stretch) (step low s k : ℕ) → map s k ≡ union map (run_noted stretch step low low) s k
 noted-none map stretch step low s k = sym (alone (map s k) (run_noted stretch step low low s k) (none-noted stretch step low s k))

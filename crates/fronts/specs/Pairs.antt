@@ -17,7 +17,8 @@ second_of (Other first second) = second
 
 -- of a place first the one point is put, for the even steps or for the odd ones, and then the other
 -- for the others
-pub record ArePut (even : Bool) (place : ℕ) (first second : Point) (old new : Stretch) : Type 0 where
+pub record ArePut (even : Bool) (place : ℕ) (first second : Point) (old new : Stretch)
+    : Type 0 where
   pub between : Stretch
   pub one : IsPutIn even place first old between
   pub other : IsPutIn (not even) place second between new

@@ -12,6 +12,7 @@ use envelope::{Fold, stands_for_equal_maps};
 impl Stretch {
     /// Notes the points of the places from `low` on and below `high` that are kept for a step. A
     /// step past the fold's last changes nothing.
+    #[inline(always)]
     pub fn note(&self, fold: &mut Fold, step: u64, low: usize, high: usize)
         requires order { low ≤ high }
         requires inside { high ≤ count_of self.now }
@@ -31,6 +32,7 @@ impl Stretch {
 
     // As `note`, of a calm stretch.
     #[tactic(auto, unfolding(crate::specs::Stretches::count_of))]
+    #[inline(always)]
     fn note_spots(&self, fold: &mut Fold, step: u64, low: usize, high: usize)
         requires calm { self.now.calm ≡ true }
         requires order { low ≤ high }

@@ -43,6 +43,7 @@ pub(crate) fn clear(cavities: &mut [Cavity])
 }
 
 /// Whether none of these is a cavity, and none tells of a Bad point.
+#[inline(never)]
 pub(crate) fn are_none(cavities: &[Cavity]) -> bool
     ensures { result ≡ true → (k : ℕ) (point : AnyPoint) →
         with_cavity point (cavity_at cavities.now k) ≡ point }

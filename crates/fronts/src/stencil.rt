@@ -13,6 +13,7 @@ use case_model::{Law, Spot};
 impl Stretch {
     /// Raises the places from `low` on and below `high` to the step after `step`, of what is kept
     /// of them and of their neighbours for `step`.
+    #[inline(always)]
     pub fn step_run<L: Law>(&mut self, law: &L, step: u64, low: usize, high: usize)
         requires on_mesh { IsOnMesh (L.meaning law.now) self.old }
         requires after_first { 0 < low }
@@ -27,7 +28,25 @@ impl Stretch {
         self.raise_run(law, step, low, high);
     }
 
+    /// As `step_run`, of one place.
+    #[inline(always)]
+    pub fn step_place<L: Law>(&mut self, law: &L, step: u64, place: usize)
+        requires on_mesh { IsOnMesh (L.meaning law.now) self.old }
+        requires after_first { 0 < place }
+        requires before_last { place + 1 < count_of self.old }
+        ensures stepped { IsStepped (L.meaning law.now) step (λ x. x) place (place + 1) self.old
+            self.new }
+        ensures holds { (since front later : ℕ → ℕ) →
+            Raises step (λ x. x) place (place + 1) (count_of self.old) since front later →
+            Holds (L.meaning law.now) since front self.old →
+            Holds (L.meaning law.now) since later self.new }
+    {
+        self.settle();
+        self.raise_next(law, step, place, place + 1);
+    }
+
     // As `step_run`: runs of a calm stretch, and place by place what has or gets a cavity.
+    #[inline(always)]
     fn raise_run<L: Law>(&mut self, law: &L, step: u64, low: usize, high: usize)
         requires on_mesh { IsOnMesh (L.meaning law.now) self.old }
         requires after_first { 0 < low }
@@ -41,6 +60,7 @@ impl Stretch {
     }
 
     // Raises the first places of a run, one at least, and gives how many these are.
+    #[inline(always)]
     fn raise_next<L: Law>(&mut self, law: &L, step: u64, low: usize, high: usize) -> usize
         requires on_mesh { IsOnMesh (L.meaning law.now) self.old }
         requires after_first { 0 < low }
@@ -61,6 +81,7 @@ impl Stretch {
 
     // Raises the first places of a run, as far as the stretch is calm, and gives how many these
     // are.
+    #[inline(always)]
     fn raise_some<L: Law>(&mut self, law: &L, step: u64, low: usize, high: usize) -> usize
         requires on_mesh { IsOnMesh (L.meaning law.now) self.old }
         requires after_first { 0 < low }
@@ -80,6 +101,7 @@ impl Stretch {
     // Raises the first places of a run of a calm stretch, as far as it stays calm, and gives how
     // many these are.
     #[tactic(auto, unfolding(crate::specs::Stretches::count_of))]
+    #[inline(always)]
     fn raise_calm<L: Law>(&mut self, law: &L, step: u64, low: usize, high: usize) -> usize
         requires on_mesh { IsOnMesh (L.meaning law.now) self.old }
         requires calm { self.old.calm ≡ true }
@@ -130,6 +152,7 @@ struct Places {
 
 // Writes the spots of these places one step after those of the even steps, or of the odd ones, as
 // far as none has a cavity; gives how many these are.
+#[inline(always)]
 fn raise_spots<L: Law>(law: &L, places: Places, even: bool, spots: &mut [Spot]) -> usize
     requires pipe { places.pipe < length (L.meaning law.now).mesh.pipes }
     requires some { 0 < places.low }
@@ -151,6 +174,7 @@ fn raise_spots<L: Law>(law: &L, places: Places, even: bool, spots: &mut [Spot]) 
 
 // Writes the spots of these places one step after those in `old` into `new`, as far as none has a
 // cavity; gives how many these are.
+#[inline(always)]
 fn make_spots<L: Law>(law: &L, places: Places, old: &[Spot], new: &mut [Spot]) -> usize
     requires pipe { places.pipe < length (L.meaning law.now).mesh.pipes }
     requires some { 0 < places.low }

@@ -96,6 +96,7 @@ impl Stretch {
     }
 
     /// The points of a place that are kept for the parity of a step, and for that of the next one.
+    #[inline(always)]
     pub fn pair(&self, step: u64, place: usize) -> Pair
         requires { place < count_of self.now }
         ensures first { first_of result ≡ kept self.now step place }
@@ -107,6 +108,7 @@ impl Stretch {
     }
 
     // The same, of the even steps first, or of the odd ones.
+    #[inline(always)]
     fn pair_of(&self, even: bool, place: usize) -> Pair
         requires { place < count_of self.now }
         ensures first { first_of result ≡ kept_in self.now even place }
@@ -203,6 +205,7 @@ impl Stretch {
     }
 
     /// Keeps the points of a place for the parity of a step, and for that of the next one.
+    #[inline(always)]
     pub fn put_pair(&mut self, step: u64, place: usize, pair: Pair)
         requires inside { place < count_of self.old }
         requires first { IsPoint (first_of pair) }
@@ -219,6 +222,7 @@ impl Stretch {
     }
 
     // The same, of the even steps first, or of the odd ones.
+    #[inline(always)]
     fn put_both(&mut self, even: bool, place: usize, pair: Pair)
         requires inside { place < count_of self.old }
         requires first { IsPoint (first_of pair) }
@@ -231,6 +235,7 @@ impl Stretch {
         }
     }
 
+    #[inline(always)]
     fn put_spots(&mut self, even: bool, place: usize, first: Spot, second: Spot)
         requires { place < count_of self.old }
         ensures { ArePut even place (calm_point first) (calm_point second) self.old self.new }
@@ -308,6 +313,8 @@ impl Stretch {
     }
 
     #[tactic(auto, unfolding(crate::specs::Stretches::count_of))]
+    #[cold]
+    #[inline(never)]
     fn set_parts(&mut self, slot: usize, parts: Parts)
         requires inside { slot < 2 * count_of self.old }
         requires wild { self.old.calm ≡ false }

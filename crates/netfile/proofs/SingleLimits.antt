@@ -20,15 +20,15 @@ use Rattle.case_lines.specs.Quantities.{limits, amount}
 use Rattle.case_lines.specs.Fields.{field, field_kind, heading_version, has_count, single_field}
 use Rattle.case_rules.specs.Said.{line_at, version_of, said, is_single, is_single_of}
 use Rattle.case_rules.specs.Among.{line_rules}
-use Rattle.case_rules.specs.Counts.{is_incomplete, count_rules, count_of, is_pipe, is_too_large}
+use Rattle.case_rules.specs.Counts.{is_incomplete, count_rules, count_of, is_pipe}
 use Rattle.case_rules.proofs.SingleWords.{word_says}
 use Rattle.netfile.specs.Built.{given, single_amount, friction_from, case_of, friction_by}
 use Rattle.fixed_num.proofs.Orders.{at_most_of}
 use Rattle.netfile.proofs.PartsSaid.{complete}
 use Rattle.netfile.proofs.FieldLimits.{IsKept, IsLine, all_kept, field_kept}
-use Rattle.case_model.specs.declared.cases.Friction.TheVariants.{Explicit}
-use Rattle.case_rules.specs.Known.{or_first, single_word, single_from, text_told}
+use Rattle.case_rules.specs.Known.{single_word, single_from, text_told}
 use Rattle.netfile.specs.Settings.{amount_by, friction_told}
+use Rattle.std.specs.Option.{option_or}
 
 single_count : (single : Single) (fields : List (List ℕ)) → has_count (OfSingle single) (length fields) ≡ true → length fields ≡ 2
 unfolding has_count
@@ -158,7 +158,7 @@ abbrev pub first_field : Option (List (List ℕ)) → Option (List ℕ)
 first_field (Some fields) = Some (field fields 1)
 first_field None = None
 
-told_here : (b : Bool) (n : ℕ) (fields : List (List ℕ)) (o : Option (ℕ × List ℕ)) (later : Option (List (List ℕ))) → text_told o ≡ first_field later → text_told (or_first (cond b (Some (n, field fields 1)) None) o) ≡ first_field (cond b (Some fields) later)
+told_here : (b : Bool) (n : ℕ) (fields : List (List ℕ)) (o : Option (ℕ × List ℕ)) (later : Option (List (List ℕ))) → text_told o ≡ first_field later → text_told (option_or (cond b (Some (n, field fields 1)) None) o) ≡ first_field (cond b (Some fields) later)
 told_here true n fields o later e = refl
 told_here false n fields o later e = e
 

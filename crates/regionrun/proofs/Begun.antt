@@ -10,7 +10,7 @@ use Rattle.case_model.specs.declared.meshes.End.{End}
 use Rattle.case_model.specs.declared.meshes.Mesh.{Mesh}
 use Rattle.case_model.specs.Joints.{no_end}
 use Rattle.case_model.specs.Mesh.{base_of, ends_of}
-use Rattle.case_model.proofs.ListFacts.{any-index}
+use Rattle.case_model.proofs.ListFacts.{any-index, same-tests}
 use Rattle.fronts.specs.Stretches.{count_of}
 use Rattle.fronts.specs.declared.stretches.Stretch.{Stretch}
 use Rattle.regions.specs.declared.shapes.Layout.{Layout}
@@ -22,7 +22,6 @@ use Rattle.strands.specs.Stations.{half}
 use Rattle.regionrun.specs.Lawful.{IsLawful}
 use Rattle.regionrun.specs.Owned.{end_number, is_own, owned}
 use Rattle.regionrun.proofs.Nodes.{AreOfNode, spoke_marks}
-use Rattle.regionrun.proofs.Owning.{same-bools}
 use Rattle.regionrun.proofs.Seams.{IsOverSeam, seam-stands}
 use Rattle.regionrun.proofs.Starts.{owned-initial}
 use Rattle.regionrun.proofs.Tents.{IsOverSection}
@@ -125,7 +124,7 @@ pub node-start : {X : Type 0} (number : X → ℕ) (d : X) (spokes : List X) (la
     ≡ (list_any (λ y. (s == 0) && (k == number y)) spokes || ((s == 0) && (k == node)))
 node-start number d spokes layout mesh x node lawful h e len each s k =
     own-start layout mesh x (OfNode node) lawful h e s k
-    ∙ same-bools _ _ (to-list number d spokes (ends_of mesh node) mesh node s k len each)
+    ∙ same-tests _ _ (to-list number d spokes (ends_of mesh node) mesh node s k len each)
     (from-list number d spokes (ends_of mesh node) mesh node s k len each)
 
 -- ---- the regions of a node, whose spokes stand in a list

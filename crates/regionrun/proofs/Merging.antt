@@ -10,7 +10,6 @@ use Rattle.case_model.specs.Meaning.{Meaning}
 use Rattle.envelope.specs.Cells.{is_within}
 use Rattle.case_model.specs.PlaceNumbers.{place_at}
 use Rattle.case_model.specs.Rows.{row}
-use Rattle.envelope.specs.Extremes.{first_of}
 use Rattle.envelope.specs.Folds.{IsSameFold, Stands, spans_of, steps_of}
 use Rattle.envelope.specs.Notings.{Agree, IsInside, Noted, Noting, nothing, union}
 use Rattle.envelope.specs.Rows.{noting_at, rows_noted}
@@ -34,6 +33,7 @@ use Rattle.regionrun.proofs.Gathered.{owned_below-all, owned_below-more, owned_b
 use Rattle.regionrun.proofs.Reached.{owned-reached}
 use Rattle.regionrun.proofs.Spanned.{node-within, seam-within, section-within}
 use Rattle.fronts.proofs.Lining.{value-of}
+use Rattle.std.specs.Option.{option_or}
 
 -- ---- where a strand's places lie, its fold has spans
 
@@ -51,7 +51,7 @@ reached-within mesh w (OfSection pipe place count left right) k r =
 abbrev pub within_marks : List (ℕ × ℕ) → Marks → Marks
 within_marks spans marks s k = is_within spans k && marks s k
 
-either-has : (a b : Bool) (z : Noting) → first_of (cond a (Some z) None) (cond b (Some z) None)
+either-has : (a b : Bool) (z : Noting) → option_or (cond a (Some z) None) (cond b (Some z) None)
     ≡ cond (a || b) (Some z) None
 either-has true b z = refl
 either-has false true z = refl

@@ -16,11 +16,6 @@ use Rattle.regionrun.specs.Owned.{spot_of, owned, AreOfRegion}
 
 -- ---- tests
 
-pub same-bools : (a b : Bool) → (a ≡ true → b ≡ true) → (b ≡ true → a ≡ true) → a ≡ b
-same-bools true b f g = sym (f refl)
-same-bools false true f g = g refl
-same-bools false false f g = refl
-
 -- one more region
 tell : (y r x m : ℕ) (z : Bool) → (z ≡ true → (y ≡ x) × (r ≡ m)) → (y ≡ x → r ≡ m → z ≡ true)
     → ((y == x) && nat_lt r (m + 1)) ≡ (((y == x) && nat_lt r m) || z)

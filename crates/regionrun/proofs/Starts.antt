@@ -13,7 +13,7 @@ use Rattle.case_model.specs.declared.meshes.Mesh.{Mesh}
 use Rattle.case_model.specs.Joints.{no_end}
 use Rattle.case_model.specs.Mesh.{base_of, ends_of, reaches}
 use Rattle.case_model.specs.PlaceNumbers.{number_of, place_at}
-use Rattle.case_model.proofs.ListFacts.{any-index}
+use Rattle.case_model.proofs.ListFacts.{any-index, same-tests}
 use Rattle.fronts.specs.Bands.{from_place}
 use Rattle.regions.specs.declared.shapes.Layout.{Layout}
 use Rattle.regions.specs.declared.shapes.Shape.{Shape}
@@ -26,7 +26,6 @@ use Rattle.regionrun.specs.Owned.{end_number, end_place, is_own, owned, spot_of}
 use Rattle.regionrun.proofs.Beside.{fan-stations, stations-fan}
 use Rattle.regionrun.proofs.Nodes.{at-most, node-beside, node-stands, node-station}
 use Rattle.regionrun.proofs.Owning.{owned-later, owned-out, owned-start, owner-is, region-is}
-use Rattle.regionrun.proofs.Owning.{same-bools}
 use Rattle.regionrun.proofs.Seams.{seam-beside, seam-stands, seam-station}
 use Rattle.regionrun.proofs.Spots.{node-below, node-is, place-below, place-is}
 use Rattle.regions.proofs.Joining.{sides-from}
@@ -201,7 +200,7 @@ owned-initial layout mesh x lawful h s k =
             let e : s ≡ 0 = omega arith in
             let o = owner_of mesh w (spot_of (place_at mesh k)) 1 in
             ap (λ t. owned mesh w x 0 t k) e ∙ owned-start mesh w x 0 k l
-            ∙ same-bools (o.strand == x) (is_own mesh shape k)
+            ∙ same-tests (o.strand == x) (is_own mesh shape k)
             (λ t. start-by layout mesh x o.region k shape (place_at mesh k) lawful h refl
             (lawful.told.number k l)
             (region-is layout mesh x o.region 1 k lawful l (omega arith) lawful.steps

@@ -20,13 +20,13 @@ use Rattle.case_lines.specs.Words.{single_of, table_of, node_of, directive_of, f
 use Rattle.case_lines.specs.Fields.{heading_version}
 use Rattle.case_rules.specs.Said.{version_of, said, is_single, is_single_of}
 use Rattle.case_writing.specs.CaseText.{version_word, friction_word, name_of_table, name_of_node, name_of_pipe}
-use Rattle.netfile.specs.Built.{friction_by, friction_from, single_amount, table_index, node_index, pipe_index, table_by, table_said, tables_of, node_by, node_said, nodes_of, pipe_by, pipe_said, pipes_of, probe_by, probe_said, probes_of, case_of}
+use Rattle.netfile.specs.Built.{friction_by, friction_from, single_amount, table_index, node_index, pipe_index, table_by, table_said, tables_of, node_by, node_said, nodes_of, pipe_by, pipe_said, pipes_of, probe_by, probe_said, probes_of, case_of, parts_from}
 use Rattle.round_trip.specs.Lines.{settings_lines, part_lines, table_line, node_line, pipe_line, probe_line, case_lines}
 use Rattle.round_trip.specs.Renumbered.{first_part, tables_on, nodes_on, pipes_on, probes_on, renumbered}
 use Rattle.round_trip.specs.Writable.{case_names, AreApart, IsWritable}
 use Rattle.round_trip.proofs.Amounts.{IsSmall, amount_back, small_above, small_between}
 use Rattle.round_trip.proofs.Directives.{spot_directive, of_table, of_node, of_pipe, of_probe}
-use Rattle.round_trip.proofs.InOrder.{parts_from, numbered, skipped, taken}
+use Rattle.round_trip.proofs.InOrder.{numbered, skipped, taken}
 use Rattle.round_trip.proofs.Indices.{apart_left, apart_right, index_back}
 use Rattle.round_trip.proofs.TablesBack.{table_on, tables_in_order, tables_numbered, each_table}
 use Rattle.round_trip.proofs.NodesBack.{AreTablesFound, node_on, nodes_in_order, nodes_numbered, each_node}

@@ -1,11 +1,7 @@
 -- The parts that lines say, in the order of the lines.
 use Rattle.std.proofs.Common.{ℕ, suc, ◌+◌, ◌≡◌, Option, Some, None, List, [], ◌∷◌, ◌++◌, map, length, ap, ◌∙◌, arith}
 use Rattle.std.specs.List.{cons_option, AllByRecursion}
-
--- the parts that lines say, by what one line says, the first with this number
-abbrev pub parts_from : {X : Type 0} → (ℕ → List (List ℕ) → Option X) → ℕ → List (List (List ℕ)) → List X
-parts_from says line [] = []
-parts_from says line (fields ∷ more) = cons_option (says line fields) (parts_from says (line + 1) more)
+use Rattle.netfile.specs.Built.{parts_from}
 
 -- parts that are made of others by the numbers of their lines
 abbrev pub numbered : {A X : Type 0} → (ℕ → A → X) → ℕ → List A → List X

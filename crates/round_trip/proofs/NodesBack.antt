@@ -16,12 +16,12 @@ use Rattle.case_lines.specs.declared.quantities.Quantity.{Quantity}
 use Rattle.case_lines.specs.declared.quantities.Quantity.TheVariants.{Head, Flow, Opening, SpeedRatio, Volume, Elevation, ValveFlow, ValveLoss, Area}
 use Rattle.case_lines.specs.Quantities.{limits}
 use Rattle.case_writing.specs.CaseText.{name_of_table, value_text, kind_fields}
-use Rattle.netfile.specs.Built.{table_index, value_said, kind_said, node_said, nodes_from}
+use Rattle.netfile.specs.Built.{table_index, value_said, kind_said, node_said, nodes_from, parts_from}
 use Rattle.round_trip.specs.Lines.{node_line}
 use Rattle.round_trip.specs.Renumbered.{nodes_on}
 use Rattle.round_trip.proofs.Amounts.{IsSmall, amount_back, small_above, unmarked}
 use Rattle.round_trip.proofs.Directives.{kind_word, of_node}
-use Rattle.round_trip.proofs.InOrder.{parts_from, numbered}
+use Rattle.round_trip.proofs.InOrder.{numbered}
 
 -- a number that reads back, or a table that is there
 abbrev pub IsGiven : List Table → Value → Type 0

@@ -12,12 +12,12 @@ use Rattle.case_lines.specs.declared.quantities.Quantity.TheVariants.{Length, Di
 use Rattle.case_lines.specs.Quantities.{amount}
 use Rattle.surge_io.specs.Fields.{count_text}
 use Rattle.case_writing.specs.CaseText.{name_of_node, name_of_pipe, spot_fields}
-use Rattle.netfile.specs.Built.{node_index, pipe_index, pipe_of, pipe_said, pipes_from, probe_by, probe_said, probes_from}
+use Rattle.netfile.specs.Built.{node_index, pipe_index, pipe_of, pipe_said, pipes_from, probe_by, probe_said, probes_from, parts_from}
 use Rattle.round_trip.specs.Lines.{pipe_line, probe_line}
 use Rattle.round_trip.specs.Renumbered.{pipes_on, probes_on}
 use Rattle.round_trip.proofs.Amounts.{IsSmall, amount_back, small_above}
 use Rattle.round_trip.proofs.Directives.{spot_directive, of_pipe, of_probe}
-use Rattle.round_trip.proofs.InOrder.{parts_from, numbered}
+use Rattle.round_trip.proofs.InOrder.{numbered}
 use Rattle.round_trip.proofs.NodesBack.{flow_small}
 use Rattle.case_model.proofs.ListFacts.{all_both}
 

@@ -13,12 +13,12 @@ use Rattle.case_lines.specs.Quantities.{amount}
 use Rattle.case_lines.specs.Fields.{first_quantity, second_quantity}
 use Rattle.case_lines.specs.Tables.{pair_count, pair_at, pairs_of}
 use Rattle.case_writing.specs.CaseText.{first_places, second_places, entry_fields}
-use Rattle.netfile.specs.Built.{table_said, tables_from}
+use Rattle.netfile.specs.Built.{table_said, tables_from, parts_from}
 use Rattle.round_trip.specs.Lines.{table_line}
 use Rattle.round_trip.specs.Renumbered.{tables_on}
 use Rattle.round_trip.proofs.Amounts.{IsSmall, amount_back, small_above}
 use Rattle.round_trip.proofs.Directives.{of_table}
-use Rattle.round_trip.proofs.InOrder.{parts_from, numbered}
+use Rattle.round_trip.proofs.InOrder.{numbered}
 
 -- the numbers of a pair read back
 pub first_small : (kind : TableKind) (e : ℤ × ℤ) → IsEntry kind e → IsSmall e.0

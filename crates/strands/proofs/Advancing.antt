@@ -366,3 +366,21 @@ notes-run stretch fold low high a b c h = (
         h.1.high in omega arith);
   },
 )
+
+-- ---- a section of two reaches
+
+-- its middle is all that lies between its ends
+pub middle-run : (step count high : ℕ) (front later : ℕ → ℕ) → count ≡ 3 → 1 < high
+    → Raises step (from_ends (count - 1)) 1 high count ever front later
+    → Raises step (λ x. x) 1 2 count ever front later
+middle-run step count high front later short far ra =
+    let end : count - 1 ≡ 2 = omega arith in
+    subst (λ z. Raises step (λ x. x) 1 z count ever front later) end
+    (raises-whole step count 1 high front later (omega arith) (omega arith) ra)
+
+-- and all that the fold has
+pub middle-noted : (stretch : Stretch) (fold : Fold) → count_of stretch ≡ 3
+    → NotesInside stretch fold → AreInOneSpan (spans_of fold) (stretch.number + 1) 1
+middle-noted stretch fold short h =
+    let one : count_of stretch - 2 ≡ 1 = omega arith in
+    subst (λ n. AreInOneSpan (spans_of fold) (stretch.number + 1) n) one h

@@ -49,3 +49,11 @@ seam-more law w s k most low high old mid new first second third size a b e f h 
     (subst (λ z. Raises (s + k) (λ x. x) (half w - most) z (2 * half w + 1) (seam_since w s) (seam_front w s k) (seam_front w s (k + 1))) (sym f) (raises-fan w s k most a b))) in
     advanced-more law (seam_since w s) (seam_front w s 0) (seam_front w s k) (seam_front w s (k + 1)) old mid new first second third
     (λ x l. (omega arith, omega arith)) h (step (seam_since w s) (seam_front w s k) (seam_front w s (k + 1)) ra h.holds)
+
+-- over a window of two steps the fold has the seam alone
+pub seam-noted : (w : ℕ) (stretch : Stretch) (fold : Fold) → w ≡ 2 → NotesTriangles w stretch fold
+    → AreInOneSpan (spans_of fold) (stretch.number + 1) 1
+seam-noted w stretch fold two (i, h) =
+    let lo : _ = h.low in
+    let hi : _ = h.high in
+    (i, record { there = h.there; low = omega arith; high = omega arith })

@@ -10,7 +10,6 @@ use Rattle.case_model.specs.Meaning.{Meaning}
 use Rattle.case_model.specs.Mesh.{IsNumbered, reaches}
 use Rattle.case_model.specs.PlaceNumbers.{IsOn, number_of, place_at}
 use Rattle.case_model.specs.Rows.{row}
-use Rattle.envelope.specs.Extremes.{first_of}
 use Rattle.envelope.specs.Notings.{Agree, Noted, Noting, union}
 use Rattle.envelope.specs.Notings.Noting.{OfPoint}
 use Rattle.envelope.specs.Rows.{noting_at, rows_noted}
@@ -21,6 +20,7 @@ use Rattle.fronts.specs.declared.stretches.Stretch.{Stretch}
 use Rattle.fronts.proofs.Lining.{run-before, run-in, value-of, where-is}
 use Rattle.strands.specs.Marks.{Marks, is_between, is_only, marked, or_marked}
 use Rattle.strands.specs.Sections.{IsLine, IsNumberedLine}
+use Rattle.std.specs.Option.{option_or}
 
 -- ---- between two fronts
 
@@ -111,7 +111,7 @@ same-line law old new h line = record {
 
 together : (m b : Bool) (r band : Option Noting) (z : Noting) → r ≡ Some z
     → ((b ≡ true) × (band ≡ r)) ⊎ ((b ≡ false) × (band ≡ None))
-    → first_of (cond m r None) band ≡ cond (m || b) r None
+    → option_or (cond m r None) band ≡ cond (m || b) r None
 together true b r band z e h = rw e refl
 together false b r band z e (inl h) = rw (h.0, h.1) refl
 together false b r band z e (inr h) = rw (h.0, h.1) refl

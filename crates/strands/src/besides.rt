@@ -31,6 +31,56 @@ pub fn load_beside<B: Block>(
         Holds law (taken_since right at start (half window) since)
         (taken_front right at window start (half window) front) stretch.new }
 {
+    if window == 2 {
+        load_next(stretch, right, at, window, start, block);
+    } else {
+        load_any_beside(stretch, right, at, window, start, block);
+    }
+}
+
+// The same over a window of two steps: the points next to the station.
+fn load_next<B: Block>(
+    stretch: &mut Stretch,
+    right: bool,
+    at: usize,
+    window: usize,
+    start: u64,
+    block: &B,
+)
+    requires two { window ≡ 2 }
+    requires each { B.size block.now ≡ window }
+    requires inside { HasBeside right at (half window) (count_of stretch.old) }
+    requires room { start + window < 2 ^ 64 }
+    ensures same { AreSamePlaces stretch.old stretch.new }
+    ensures holds { (law : Meaning) (since front : ℕ → ℕ) →
+        HasPoints window (outer_side law stretch.old right at start) (B.tells block.now) →
+        Holds law since front stretch.old →
+        Holds law (taken_since right at start (half window) since)
+        (taken_front right at window start (half window) front) stretch.new }
+{
+    let place = place_beside(stretch, right, at, 1);
+    load_at(stretch, place, window, start, block, 1);
+}
+
+// The same over a window of any count of steps.
+fn load_any_beside<B: Block>(
+    stretch: &mut Stretch,
+    right: bool,
+    at: usize,
+    window: usize,
+    start: u64,
+    block: &B,
+)
+    requires each { B.size block.now ≡ window }
+    requires inside { HasBeside right at (half window) (count_of stretch.old) }
+    requires room { start + window < 2 ^ 64 }
+    ensures same { AreSamePlaces stretch.old stretch.new }
+    ensures holds { (law : Meaning) (since front : ℕ → ℕ) →
+        HasPoints window (outer_side law stretch.old right at start) (B.tells block.now) →
+        Holds law since front stretch.old →
+        Holds law (taken_since right at start (half window) since)
+        (taken_front right at window start (half window) front) stretch.new }
+{
     for distance in 1..window.div_ceil(2) + 1 {
         let place = place_beside(stretch, right, at, distance);
         load_at(stretch, place, window, start, block, distance);
@@ -38,6 +88,7 @@ pub fn load_beside<B: Block>(
 }
 
 // Takes the points at one distance from the station in, at their place.
+#[inline(always)]
 fn load_at<B: Block>(
     stretch: &mut Stretch,
     place: usize,

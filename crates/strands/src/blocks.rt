@@ -22,6 +22,42 @@ pub fn load_side<B: Block>(stretch: &mut Stretch, left: bool, window: usize, sta
         Holds law ever front stretch.old →
         Holds law ever (raised left (count_of stretch.old - 1) window start front) stretch.new }
 {
+    if window == 2 {
+        load_end(stretch, left, window, start, block);
+    } else {
+        load_any_side(stretch, left, window, start, block);
+    }
+}
+
+// The same over a window of two steps: the points of the station alone.
+fn load_end<B: Block>(stretch: &mut Stretch, left: bool, window: usize, start: u64, block: &B)
+    requires two { window ≡ 2 }
+    requires each { B.size block.now ≡ window }
+    requires long { window + 1 ≤ count_of stretch.old }
+    requires room { start + window < 2 ^ 64 }
+    ensures same { AreSamePlaces stretch.old stretch.new }
+    ensures holds { (law : Meaning) (front : ℕ → ℕ) →
+        HasPoints window (station_side law stretch.old left window start) (B.tells block.now) →
+        IsBare left (count_of stretch.old - 1) window start front →
+        Holds law ever front stretch.old →
+        Holds law ever (raised left (count_of stretch.old - 1) window start front) stretch.new }
+{
+    let last = stretch.count() - 1;
+    load_place(stretch, from_end(left, last, 0), window, start, block, 0);
+}
+
+// The same over a window of any count of steps.
+fn load_any_side<B: Block>(stretch: &mut Stretch, left: bool, window: usize, start: u64, block: &B)
+    requires each { B.size block.now ≡ window }
+    requires long { window + 1 ≤ count_of stretch.old }
+    requires room { start + window < 2 ^ 64 }
+    ensures same { AreSamePlaces stretch.old stretch.new }
+    ensures holds { (law : Meaning) (front : ℕ → ℕ) →
+        HasPoints window (station_side law stretch.old left window start) (B.tells block.now) →
+        IsBare left (count_of stretch.old - 1) window start front →
+        Holds law ever front stretch.old →
+        Holds law ever (raised left (count_of stretch.old - 1) window start front) stretch.new }
+{
     let last = stretch.count() - 1;
     for distance in 0..window.div_ceil(2) {
         load_place(
@@ -36,6 +72,7 @@ pub fn load_side<B: Block>(stretch: &mut Stretch, left: bool, window: usize, sta
 }
 
 // Takes the points at one distance from the station in, at their place.
+#[inline(always)]
 fn load_place<B: Block>(
     stretch: &mut Stretch,
     place: usize,

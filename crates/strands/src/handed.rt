@@ -99,6 +99,7 @@ impl<'a> Block for SectionBlock<'a> {
     }
 
     #[tactic(auto, unfolding(crate::specs::Blocks::section_tells))]
+    #[inline(always)]
     fn pair(&self, index: usize) -> Pair {
         let place = from_end(self.left, self.stretch.count() - 1, index + 1);
         self.stretch.pair(self.start + index as u64, place)
@@ -166,6 +167,7 @@ impl<'a> Block for StationBlock<'a> {
     }
 
     #[tactic(auto, unfolding(crate::specs::Beside::station_tells))]
+    #[inline(always)]
     fn pair(&self, index: usize) -> Pair {
         let place = place_beside(self.stretch, self.right, self.at, index);
         self.stretch

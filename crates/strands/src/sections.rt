@@ -6,7 +6,7 @@ ghost use Rattle.fronts.specs.Fronts.{Holds, Raises, ever, loaded, risen, tent};
 ghost use Rattle.fronts.specs.Stretches.{count_of};
 ghost use Rattle.strands.specs.Sections.{IsAdvanced, IsLine, NotesInside};
 
-use crate::stations::advance_run;
+use crate::stations::{advance_place, advance_run};
 use case_model::Law;
 use envelope::{Fold, stands_for_equal_maps};
 use fronts::Stretch;
@@ -63,6 +63,57 @@ pub fn advance_start<L: Law>(law: &L, stretch: &mut Stretch, fold: &mut Fold)
 /// A later region of a section, over the window of so many steps after `start`: the blocks of
 /// both stations are loaded, and the tent is raised by a window.
 pub fn advance_region<L: Law>(
+    law: &L,
+    window: usize,
+    start: u64,
+    stretch: &mut Stretch,
+    fold: &mut Fold,
+)
+    requires line { IsLine (L.meaning law.now) stretch.old }
+    requires noted { NotesInside stretch.old fold.old }
+    requires some { 1 ≤ window }
+    requires long { window + 1 ≤ count_of stretch.old }
+    requires room { start + 2 * count_of stretch.old < 2 ^ 64 }
+    requires holds { let n = count_of stretch.old - 1 in
+        Holds (L.meaning law.now) ever (loaded start window n) stretch.old }
+    ensures { let n = count_of stretch.old - 1 in
+        IsAdvanced (L.meaning law.now) ever (loaded start window n) (tent (start + window) n)
+        stretch.old stretch.new fold.old fold.new }
+{
+    if window == 2 && stretch.count() == 3 {
+        advance_bare_region(law, window, start, stretch, fold);
+    } else {
+        advance_any_region(law, window, start, stretch, fold);
+    }
+}
+
+// A later region of a section of two reaches, over a window of two steps: it has one place.
+fn advance_bare_region<L: Law>(
+    law: &L,
+    window: usize,
+    start: u64,
+    stretch: &mut Stretch,
+    fold: &mut Fold,
+)
+    requires line { IsLine (L.meaning law.now) stretch.old }
+    requires noted { NotesInside stretch.old fold.old }
+    requires two { window ≡ 2 }
+    requires short { count_of stretch.old ≡ 3 }
+    requires some { 1 ≤ window }
+    requires long { window + 1 ≤ count_of stretch.old }
+    requires room { start + 2 * count_of stretch.old < 2 ^ 64 }
+    requires holds { let n = count_of stretch.old - 1 in
+        Holds (L.meaning law.now) ever (loaded start window n) stretch.old }
+    ensures { let n = count_of stretch.old - 1 in
+        IsAdvanced (L.meaning law.now) ever (loaded start window n) (tent (start + window) n)
+        stretch.old stretch.new fold.old fold.new }
+{
+    advance_place(law, stretch, fold, start + 1, 1);
+    advance_place(law, stretch, fold, start + 2, 1);
+}
+
+// A later region of a section of any count of reaches, over a window of any count of steps.
+fn advance_any_region<L: Law>(
     law: &L,
     window: usize,
     start: u64,

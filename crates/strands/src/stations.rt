@@ -14,6 +14,7 @@ use fronts::Stretch;
 
 /// Raises the places of a stretch from `low` on and below `high` to the step after `step`, and
 /// notes them.
+#[inline(never)]
 pub fn advance_run<L: Law>(
     law: &L,
     stretch: &mut Stretch,
@@ -41,9 +42,84 @@ pub fn advance_run<L: Law>(
     stretch.note(fold, step + 1, low, high);
 }
 
+/// As `advance_run`, of one place.
+#[inline(never)]
+pub fn advance_place<L: Law>(
+    law: &L,
+    stretch: &mut Stretch,
+    fold: &mut Fold,
+    step: u64,
+    place: usize,
+)
+    requires line { IsLine (L.meaning law.now) stretch.old }
+    requires noted { AreInOneSpan (spans_of fold.old) (stretch.old.number + place) 1 }
+    requires room { step + 1 < 2 ^ 64 }
+    requires after_first { 0 < place }
+    requires before_last { place + 1 < count_of stretch.old }
+    ensures same { AreSamePlaces stretch.old stretch.new }
+    ensures same_fold { IsSameFold fold.old fold.new }
+    ensures advanced { (since front later : ℕ → ℕ) →
+        Raises step (λ x. x) place (place + 1) (count_of stretch.old) since front later →
+        Holds (L.meaning law.now) since front stretch.old →
+        IsAdvanced (L.meaning law.now) since front later stretch.old stretch.new fold.old fold.new }
+{
+    numbers_tell_places();
+    stands_for_equal_maps();
+    stretch.step_place(law, step, place);
+    stretch.note(fold, step + 1, place, place + 1);
+}
+
 /// A region of a seam, over the window of so many steps after `start`: the blocks of both sections
 /// are loaded, and the seam in the middle of the stretch and its two triangles are computed.
 pub fn advance_seam<L: Law>(
+    law: &L,
+    window: usize,
+    start: u64,
+    stretch: &mut Stretch,
+    fold: &mut Fold,
+)
+    requires line { IsLine (L.meaning law.now) stretch.old }
+    requires noted { NotesTriangles window stretch.old fold.old }
+    requires size { count_of stretch.old ≡ 2 * ((window + 1) / 2) + 1 }
+    requires room { start + window < 2 ^ 64 }
+    requires holds { let since = seam_since window start in
+        Holds (L.meaning law.now) since (seam_front window start 0) stretch.old }
+    ensures { let since = seam_since window start in
+        IsAdvanced (L.meaning law.now) since (seam_front window start 0)
+        (seam_front window start window) stretch.old stretch.new fold.old fold.new }
+{
+    if window == 2 {
+        advance_bare_seam(law, window, start, stretch, fold);
+    } else {
+        advance_any_seam(law, window, start, stretch, fold);
+    }
+}
+
+// A region of a seam over a window of two steps: its triangles have no places.
+fn advance_bare_seam<L: Law>(
+    law: &L,
+    window: usize,
+    start: u64,
+    stretch: &mut Stretch,
+    fold: &mut Fold,
+)
+    requires two { window ≡ 2 }
+    requires line { IsLine (L.meaning law.now) stretch.old }
+    requires noted { NotesTriangles window stretch.old fold.old }
+    requires size { count_of stretch.old ≡ 2 * ((window + 1) / 2) + 1 }
+    requires room { start + window < 2 ^ 64 }
+    requires holds { let since = seam_since window start in
+        Holds (L.meaning law.now) since (seam_front window start 0) stretch.old }
+    ensures { let since = seam_since window start in
+        IsAdvanced (L.meaning law.now) since (seam_front window start 0)
+        (seam_front window start window) stretch.old stretch.new fold.old fold.new }
+{
+    advance_place(law, stretch, fold, start, 1);
+    advance_place(law, stretch, fold, start + 1, 1);
+}
+
+// A region of a seam over a window of any count of steps.
+fn advance_any_seam<L: Law>(
     law: &L,
     window: usize,
     start: u64,

@@ -4,7 +4,7 @@ use Rattle.fronts.specs.Stretches.{count_of}
 use Rattle.strands.specs.Sections.{IsAdvanced}
 use Rattle.strands.proofs.Advancing.{advanced-end, advanced-none, notes-same, region-more}
 use Rattle.strands.proofs.Marking.{same-line}
-use Rattle.strands.proofs.sections.advance_region.Goals as goal
+use Rattle.strands.proofs.sections.advance_any_region.Goals as goal
 
 pub loop-k-init : goal.loop-k-init
 loop-k-init g c =

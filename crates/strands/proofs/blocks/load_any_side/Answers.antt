@@ -2,7 +2,7 @@ use Rattle.std.proofs.Common.{◌≡◌, ◌+◌, ◌-◌, ◌/◌, ◌≤◌, �
 use Rattle.fronts.specs.Stretches.{count_of}
 use Rattle.strands.proofs.Loading.{end-inside, loading-all, loading-none, same-points}
 use Rattle.strands.specs.Blocks.{from_end}
-use Rattle.strands.proofs.blocks.load_side.Goals as goal
+use Rattle.strands.proofs.blocks.load_any_side.Goals as goal
 
 pub loop-distance-init : goal.loop-distance-init
 loop-distance-init g c = record {

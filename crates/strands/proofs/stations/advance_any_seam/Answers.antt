@@ -6,7 +6,7 @@ use Rattle.strands.specs.Stations.{half, seam_front, seam_since}
 use Rattle.strands.proofs.Advancing.{advanced-none}
 use Rattle.strands.proofs.Marking.{same-line}
 use Rattle.strands.proofs.Fans.{seam-more, triangles-same, within-triangles}
-use Rattle.strands.proofs.stations.advance_seam.Goals as goal
+use Rattle.strands.proofs.stations.advance_any_seam.Goals as goal
 
 pub loop-k-init : goal.loop-k-init
 loop-k-init g c =

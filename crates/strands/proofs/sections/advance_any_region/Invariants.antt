@@ -2,7 +2,7 @@ use Rattle.std.proofs.Common.{◌-◌}
 use Rattle.fronts.specs.Fronts.{ever, loaded, swept}
 use Rattle.fronts.specs.Stretches.{count_of}
 use Rattle.strands.specs.Sections.{IsAdvanced}
-use Rattle.strands.proofs.sections.advance_region.Given as goal
+use Rattle.strands.proofs.sections.advance_any_region.Given as goal
 
 abbrev pub invariant-loop-k : goal.invariant-loop-k
 invariant-loop-k g l =

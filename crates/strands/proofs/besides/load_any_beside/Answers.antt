@@ -4,7 +4,7 @@ use Rattle.fronts.specs.Stretches.{count_of}
 use Rattle.strands.proofs.Taking.{nearer, same-outer}
 use Rattle.strands.specs.Beside.{HasBeside, taken_front, taken_since}
 use Rattle.strands.specs.Stations.{half}
-use Rattle.strands.proofs.besides.load_beside.Goals as goal
+use Rattle.strands.proofs.besides.load_any_beside.Goals as goal
 
 pub loop-distance-preserved : goal.loop-distance-preserved
 loop-distance-preserved g c =

@@ -1,6 +1,6 @@
 use Rattle.strands.specs.Sections.{IsAdvanced}
 use Rattle.strands.specs.Stations.{seam_front, seam_since}
-use Rattle.strands.proofs.stations.advance_seam.Given as goal
+use Rattle.strands.proofs.stations.advance_any_seam.Given as goal
 
 abbrev pub invariant-loop-k : goal.invariant-loop-k
 invariant-loop-k g l =
