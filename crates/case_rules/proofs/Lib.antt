@@ -1,4 +1,3 @@
-pub mod Adding
 pub mod Earlier
 pub mod LinesRead
 pub mod Ranges

@@ -1,7 +1,8 @@
 -- What a tally knows, line by line and at the end, and what it says of the rules on counts.
-use Rattle.std.proofs.Common.{ℕ, ◌+◌, ◌<◌, ◌≤◌, ◌≡◌, ◌⊎◌, ◌==◌, ◌&&◌, ◌||◌, nat_lt, Bool, true, false, cond, IsTrue, Option, Some, None, List, [], ◌∷◌, length, sym, ◌∙◌, refl, arith}
+use Rattle.std.proofs.Common.{ℕ, ◌+◌, ◌<◌, ◌≤◌, ◌≡◌, ◌⊎◌, ◌==◌, ◌&&◌, ◌||◌, nat_lt, Bool, true, false, cond, IsTrue, Option, Some, None, List, [], ◌∷◌, length, sym, ◌∙◌, refl, arith, lt-ltb}
 use Rattle.std.proofs.Math.Bool.{or-false}
 use Rattle.std.specs.List.{list_any}
+use Rattle.std.specs.Option.{is_some}
 use Rattle.std.specs.HashMap.{get}
 use Rattle.std.specs.HashSet.{contains}
 use Rattle.std.specs.Str.{bytes_eq}
@@ -10,9 +11,10 @@ use Rattle.case_model.specs.Sets.{IsEmpty, IsLeast}
 use Rattle.case_lines.specs.declared.words.Single.TheVariants.{Step, Steps}
 use Rattle.case_lines.specs.declared.words.Directive.{Directive}
 use Rattle.case_lines.specs.Fields.{field}
+use Rattle.case_rules.specs.declared.parts.Part.{Part}
 use Rattle.case_rules.specs.declared.tally.Counts.{Counts}
 use Rattle.case_rules.specs.declared.tally.Tally.{Tally}
-use Rattle.case_rules.specs.Said.{version_of, said, defines_part}
+use Rattle.case_rules.specs.Said.{version_of, said, named_by, same_part, defines_part}
 use Rattle.case_rules.specs.Counts.{is_table, is_node, is_pipe, is_sampled, count_of, is_incomplete, is_too_large, count_rules}
 use Rattle.case_rules.specs.Known.{same_bytes, same_key, or_index, one_if, is_every, is_named, names_such, index_from, single_here, single_from, given_at, lacks_single}
 use Rattle.case_rules.specs.Tallies.{nothing, counted, IsFew, IsTally, IsAdded, IsTallied}
@@ -112,21 +114,16 @@ one_le true = omega arith
 one_le false = omega arith
 
 -- the counts stay below the count of lines
-few_more : (most : ℕ) (c : Counts) (directive : Option Directive) → IsFew most c → IsFew (most + 1) (counted c directive)
-few_more most c directive f =
-    let m = counts_more c directive in
-    record {
-      lines = omega (arith, m.0, f.lines);
-      tables = omega (arith, m.1, f.tables, one_le (is_table directive));
-      nodes = omega (arith, m.2, f.nodes, one_le (is_node directive));
-      pipes = omega (arith, m.3, f.pipes, one_le (is_pipe directive));
-      probes = omega (arith, m.4, f.probes, one_le (is_sampled directive));
-    }
-
--- the counts after one more line
 pub few_next : (c u : Counts) (directive : Option Directive) → u ≡ counted c directive → IsFew c.lines c → IsFew u.lines u
-unfolding counted
-few_next c u directive e f = rw e (few_more c.lines c directive f)
+few_next c u directive e f =
+    let m = counts_more c directive in
+    rw e (record {
+      lines = omega arith;
+      tables = omega (arith, m.0, m.1, f.tables, one_le (is_table directive));
+      nodes = omega (arith, m.0, m.2, f.nodes, one_le (is_node directive));
+      pipes = omega (arith, m.0, m.3, f.pipes, one_le (is_pipe directive));
+      probes = omega (arith, m.0, m.4, f.probes, one_le (is_sampled directive));
+    })
 
 pub lines_next : (c u : Counts) (directive : Option Directive) → u ≡ counted c directive → u.lines ≡ c.lines + 1
 lines_next c u directive e = rw e (counts_more c directive).0
@@ -136,6 +133,36 @@ pub name_added : (is_such : Option Directive → Bool) (b : Bool) (o : Option Di
     → new ≡ or_index old (b && nat_lt 1 (length fields) && bytes_eq (field fields 1) name) index → new ≡ or_index old (names_such is_such name fields) index
 unfolding names_such
 name_added is_such b o fields name old new index e k h = rw (← k, ← e) h
+
+chosen : (a b d : Bool) → cond (a && b) true d ≡ ((a && true && b) || d)
+chosen true true d = refl
+chosen true false d = refl
+chosen false b d = refl
+
+-- one more line's name among the names of lines
+pub added : (part own : Part) (name text : List ℕ) (fields : List (List ℕ)) (d : Bool) → named_by (said fields) ≡ Some own → 1 < length fields → text ≡ field fields 1
+    → cond (same_part own part && bytes_eq text name) true d ≡ (defines_part part name fields || d)
+unfolding defines_part
+added part own name text fields d e l f =
+    let t : nat_lt 1 (length fields) ≡ true = lt-ltb 1 (length fields) l in
+    rw (e, t, f) (chosen (same_part own part) (bytes_eq (field fields 1) name) d)
+
+-- a line without a directive defines none
+pub none_of : (o : Option Directive) → is_some o ≡ false → o ≡ None
+none_of None h = refl
+none_of (Some d) h = absurd (cc)
+
+index_none : (o : Option ℕ) (n : ℕ) → o ≡ or_index o false n
+index_none None n = refl
+index_none (Some x) n = refl
+
+pub no_name : (is_such : Option Directive → Bool) (fields : List (List ℕ)) (name : List ℕ) (o : Option ℕ) (n : ℕ) → said fields ≡ None → is_such None ≡ false → o ≡ or_index o (names_such is_such name fields) n
+unfolding names_such
+no_name is_such fields name o n e f = rw (e, f) (index_none o n)
+
+pub no_kind : (part : Part) (fields : List (List ℕ)) (name : List ℕ) (b : Bool) → said fields ≡ None → b ≡ (defines_part part name fields || b)
+unfolding defines_part
+no_kind part fields name b e = rw e refl
 
 -- the tests of a tally are those of its lines
 pub incomplete_is : (t : Tally) (lines : List (List (List ℕ))) → IsTally t lines → is_incomplete lines ≡ (lacks_single t.singles.items Step || lacks_single t.singles.items Steps || (t.counts.pipes == 0))

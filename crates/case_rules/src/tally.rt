@@ -8,9 +8,9 @@ ghost use denote.Ref.{Bor};
 ghost use Rattle.case_lines.specs.Fields.{field as field_at};
 ghost use Rattle.case_lines.specs.Texts.{lines_of};
 ghost use Rattle.case_rules.specs.Said.{version_of, defines_part};
-ghost use Rattle.case_rules.specs.Known.{same_bytes, same_key, or_index, one_if as one_where};
+ghost use Rattle.case_rules.specs.Known.{same_bytes, same_key, or_index};
 ghost use Rattle.case_rules.specs.Known.{seen, text_told, single_from};
-ghost use Rattle.case_rules.specs.Tallies.{nothing as nothing_counted, counted as counted_more};
+ghost use Rattle.case_rules.specs.Tallies.{counted as counted_more};
 ghost use Rattle.case_rules.specs.Tallies.{IsFew, IsTally, IsAdded, IsKindAdded, IsTallied};
 
 use crate::parts::{Part, is_named, named_by, said};
@@ -72,7 +72,13 @@ pub fn tally_lines<'a>(alloc: Global, bytes: &'a [u8]) -> Result<Tally<'a>, Allo
 {
     let mut tally = Tally {
         version: text_version(alloc, bytes)?,
-        counts: nothing(),
+        counts: Counts {
+            lines: 0,
+            tables: 0,
+            nodes: 0,
+            pipes: 0,
+            probes: 0,
+        },
         kinds: HashSet::new(alloc),
         names: HashMap::new(alloc),
         tables: HashMap::new(alloc),
@@ -98,18 +104,6 @@ fn text_version(alloc: Global, bytes: &[u8]) -> Result<u8, AllocError>
     }
 }
 
-fn nothing() -> Counts
-    ensures { result ≡ nothing_counted }
-{
-    Counts {
-        lines: 0,
-        tables: 0,
-        nodes: 0,
-        pipes: 0,
-        probes: 0,
-    }
-}
-
 // One more line.
 fn add_line<'a>(tally: &mut Tally<'a>, line: &Line<'a>) -> Result<(), AllocError>
     requires { IsFew 8_388_608 tally.old.counts }
@@ -117,13 +111,16 @@ fn add_line<'a>(tally: &mut Tally<'a>, line: &Line<'a>) -> Result<(), AllocError
 {
     let directive = said(line);
     let counts = tally.counts;
+    tally.counts = counted(counts, directive);
+    if directive.is_none() {
+        return Ok(());
+    }
     add_kind(&mut tally.kinds, line)?;
     add_name(&mut tally.names, is_named(directive), counts.lines, line)?;
     add_name(&mut tally.tables, is_table(directive), counts.tables, line)?;
     add_name(&mut tally.nodes, is_node(directive), counts.nodes, line)?;
     add_name(&mut tally.pipes, is_pipe(directive), counts.pipes, line)?;
     add_single(&mut tally.singles, counts.lines, line)?;
-    tally.counts = counted(counts, directive);
     Ok(())
 }
 
@@ -135,18 +132,11 @@ fn counted(counts: Counts, directive: Option<Directive>) -> Counts
 {
     Counts {
         lines: counts.lines + 1,
-        tables: counts.tables + one_if(is_table(directive)),
-        nodes: counts.nodes + one_if(is_node(directive)),
-        pipes: counts.pipes + one_if(is_pipe(directive)),
-        probes: counts.probes + one_if(is_sampled(directive)),
+        tables: counts.tables + u32::from(is_table(directive)),
+        nodes: counts.nodes + u32::from(is_node(directive)),
+        pipes: counts.pipes + u32::from(is_pipe(directive)),
+        probes: counts.probes + u32::from(is_sampled(directive)),
     }
-}
-
-fn one_if(counts: bool) -> u32
-    ensures value { result ≡ one_where counts }
-    ensures few { result ≤ 1 }
-{
-    if counts { 1 } else { 0 }
 }
 
 // Adds the name that a line defines, if any, with its kind.

@@ -18,6 +18,9 @@ pub struct Line {
 }
 
 impl Model for Line {
+    ghost use Rattle.std.specs.Prelude.{ℕ, ◌≤◌, List, take};
+    ghost use Rattle.surge_io.specs.declared.line.TheConstants.{LINE_WIDTH};
+
     ghost Value = { List ℕ };
 
     ghost view = { λ l. take l.used l.bytes };

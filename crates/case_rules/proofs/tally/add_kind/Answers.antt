@@ -2,7 +2,7 @@ use Rattle.std.proofs.Common.{ap, ◌∙◌, sym}
 use Rattle.std.specs.HashSet.{contains}
 use Rattle.case_rules.specs.Said.{named_by}
 use Rattle.case_rules.specs.Known.{same_key}
-use Rattle.case_rules.proofs.Adding.{added}
+use Rattle.case_rules.proofs.Tallied.{added}
 use Rattle.case_rules.proofs.tally.add_kind.Goals as goal
 
 pub returns-in_ok-insert : goal.returns-in_ok-insert

@@ -1,9 +1,25 @@
-use Rattle.std.proofs.Common.{ap, ◌∙◌, refl}
-use Rattle.case_rules.specs.Known.{is_named}
+use Rattle.std.proofs.Common.{◌≡◌, None, ap, sym, ◌∙◌, refl}
+use Rattle.case_rules.specs.Known.{is_named, single_in}
+use Rattle.case_rules.specs.Said.{said}
+use Rattle.case_rules.proofs.SinglesKept.{added_none}
 use Rattle.case_rules.specs.Counts.{is_table, is_node, is_pipe}
 use Rattle.case_rules.specs.Tallies.{counted}
-use Rattle.case_rules.proofs.Tallied.{name_added}
+use Rattle.case_rules.proofs.Tallied.{name_added, no_name, no_kind, none_of}
 use Rattle.case_rules.proofs.tally.add_line.Goals as goal
+
+pub returns-then-is_none : goal.returns-then-is_none
+returns-then-is_none c =
+    let fields = c.args.line.now in
+    let e : said fields ≡ None = sym c.said-directive.ensures ∙ none_of _ c.if-is_none.ensures in record {
+      version = refl;
+      counts = c.counted-tally.ensures ∙ ap (counted c.args.tally.now.counts) c.said-directive.ensures;
+      kinds = λ part name. no_kind part fields name.now _ e;
+      names = λ name. no_name is_named fields name.now _ _ e refl;
+      tables = λ name. no_name is_table fields name.now _ _ e refl;
+      nodes = λ name. no_name is_node fields name.now _ _ e refl;
+      pipes = λ name. no_name is_pipe fields name.now _ _ e refl;
+      singles = λ s. added_none c.args.tally.now.singles.items _ fields s (ap single_in e);
+    }
 
 pub returns : goal.returns
 returns c = record {
