@@ -1,0 +1,10 @@
+pub mod Listed
+pub mod Beside
+pub mod Found
+pub mod Going
+pub mod Leaving
+pub mod Looking
+pub mod Needing
+pub mod Passing
+pub mod Starting
+pub mod Taking

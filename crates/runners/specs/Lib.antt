@@ -1,0 +1,5 @@
+pub mod Advances
+pub mod Blocks
+pub mod Ends
+pub mod Runners
+pub mod Tags
