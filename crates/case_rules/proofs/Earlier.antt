@@ -5,7 +5,7 @@ use Rattle.std.specs.List.{list_any}
 use Rattle.std.specs.Str.{bytes_eq}
 use Rattle.case_lines.specs.declared.words.Single.{Single}
 use Rattle.case_lines.specs.Fields.{field}
-use Rattle.case_rules.specs.Said.{said, is_some_part, named_by, is_definition, defines, is_single, is_single_of}
+use Rattle.case_rules.specs.Said.{directive_said, is_some_part, named_by, is_definition, defines, is_single, is_single_of}
 use Rattle.case_rules.specs.Known.{is_every, is_named, names_such, index_from, is_earlier, single_in, single_word, single_from, line_told}
 use Rattle.case_rules.proofs.SingleWords.{is_single_in, word_in}
 use Rattle.std.specs.Option.{option_or}
@@ -44,7 +44,7 @@ and_more false b c = refl
 
 named_defines : (name : List ℕ) (fields : List (List ℕ)) → names_such is_named name fields ≡ defines name fields
 unfolding names_such defines is_definition
-named_defines name fields = and_more (is_some_part (named_by (said fields))) (nat_lt 1 (length fields)) (bytes_eq (field fields 1) name)
+named_defines name fields = and_more (is_some_part (named_by (directive_said fields))) (nat_lt 1 (length fields)) (bytes_eq (field fields 1) name)
 
 -- whether one of the first k lines defines a name
 pub name_earlier : (name : List ℕ) (k : ℕ) (lines : List (List (List ℕ))) → is_earlier k (index_from is_every (names_such is_named name) 0 lines) ≡ list_any (defines name) (take k lines)
@@ -59,9 +59,9 @@ single_told s n [] = refl
 single_told s n (fields ∷ lines) = told_more (is_single_of (single_word s) fields) n (field fields 1) (single_from s (n + 1) lines) (index_from is_every (is_single_of (single_word s)) (n + 1) lines) (single_told s (n + 1) lines)
 
 -- whether one of the first k lines has the single directive of a line
-pub single_earlier : (fields : List (List ℕ)) (s : Single) (k : ℕ) (lines : List (List (List ℕ))) → single_in (said fields) ≡ Some s
+pub single_earlier : (fields : List (List ℕ)) (s : Single) (k : ℕ) (lines : List (List (List ℕ))) → single_in (directive_said fields) ≡ Some s
     → is_earlier k (line_told (single_from s 0 lines)) ≡ (is_single fields && list_any (is_single_of (field fields 0)) (take k lines))
 single_earlier fields s k lines e = rw (is_single_in fields, e, word_in fields s e) (ap (is_earlier k) (single_told s 0 lines) ∙ earlier_first (is_single_of (single_word s)) k lines)
 
-pub no_single_in : (fields : List (List ℕ)) (b : Bool) → single_in (said fields) ≡ None → false ≡ (is_single fields && b)
+pub no_single_in : (fields : List (List ℕ)) (b : Bool) → single_in (directive_said fields) ≡ None → false ≡ (is_single fields && b)
 no_single_in fields b e = rw (is_single_in fields, e) refl

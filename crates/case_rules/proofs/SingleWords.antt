@@ -13,7 +13,7 @@ use Rattle.case_lines.specs.declared.words.Directive.{Directive}
 use Rattle.case_lines.specs.declared.words.Directive.TheVariants.{OfSingle, OfPipe, OfProbe, OfWatch}
 use Rattle.case_lines.specs.Fields.{field}
 use Rattle.case_lines.specs.Words.{single_of, table_of, node_of, single_or_other, table_or_other, node_or_other, directive_of}
-use Rattle.case_rules.specs.Said.{said, is_single_directive, is_single, is_single_of}
+use Rattle.case_rules.specs.Said.{directive_said, is_single_directive, is_single, is_single_of}
 use Rattle.case_rules.specs.Known.{single_in, single_word, same_single}
 use Rattle.case_model.proofs.ListFacts.{same-tests}
 
@@ -95,23 +95,23 @@ this_by : (s : Single) (word : List ℕ) (o : Option Directive) → directive_of
 this_by s word (Some (OfSingle t)) e = ap (λ (w : List ℕ). bytes_eq w (single_word s)) (word_of_single word t e) ∙ words_apart t s
 this_by s word _ e = refl
 
-pub single_is : (s : Single) (fields : List (List ℕ)) → is_single_of (single_word s) fields ≡ is_this s (single_in (said fields))
-unfolding is_single_of is_single said
+pub single_is : (s : Single) (fields : List (List ℕ)) → is_single_of (single_word s) fields ≡ is_this s (single_in (directive_said fields))
+unfolding is_single_of is_single directive_said
 single_is s fields = this_by s (field fields 0) (directive_of (field fields 0)) refl
 
 single_by : (o : Option Directive) → is_single_directive o ≡ is_some (single_in o)
 single_by (Some OfPipe) = refl
 single_by _ = refl
 
-pub is_single_in : (fields : List (List ℕ)) → is_single fields ≡ is_some (single_in (said fields))
+pub is_single_in : (fields : List (List ℕ)) → is_single fields ≡ is_some (single_in (directive_said fields))
 unfolding is_single
-is_single_in fields = single_by (said fields)
+is_single_in fields = single_by (directive_said fields)
 
 single_only_in : (o : Option Directive) (t : Single) → single_in o ≡ Some t → o ≡ Some (OfSingle t)
 single_only_in (Some (OfSingle s)) t e = cc
 single_only_in _ t e = absurd (cc)
 
 -- the first field of a line with a single directive
-pub word_in : (fields : List (List ℕ)) (t : Single) → single_in (said fields) ≡ Some t → field fields 0 ≡ single_word t
-unfolding said
+pub word_in : (fields : List (List ℕ)) (t : Single) → single_in (directive_said fields) ≡ Some t → field fields 0 ≡ single_word t
+unfolding directive_said
 word_in fields t e = word_of_single (field fields 0) t (single_only_in (directive_of (field fields 0)) t e)

@@ -7,7 +7,7 @@ use Rattle.case_lines.specs.contracts.words.Single.{the_type}
 use Rattle.case_lines.specs.declared.words.Single.{Single}
 use Rattle.case_lines.specs.Fields.{field}
 use Rattle.case_rules.specs.declared.singles.Given.{Given}
-use Rattle.case_rules.specs.Said.{said, is_single_of}
+use Rattle.case_rules.specs.Said.{directive_said, is_single_of}
 use Rattle.case_rules.specs.Known.{single_in, single_word, same_single, single_here, single_from, given_at, line_told}
 use Rattle.case_rules.proofs.SingleWords.{single_is}
 
@@ -28,7 +28,7 @@ kept_more (g ∷ singles) given s =
     (kept_more singles given s)
 
 -- the line of a single directive adds it
-pub added_new : (singles : List Given) (given : Given) (fields : List (List ℕ)) (s : Single) → single_in (said fields) ≡ Some given.single → given.text.now ≡ field fields 1
+pub added_new : (singles : List Given) (given : Given) (fields : List (List ℕ)) (s : Single) → single_in (directive_said fields) ≡ Some given.single → given.text.now ≡ field fields 1
     → given_at (singles ++ given ∷ []) s ≡ option_or (given_at singles s) (single_here s given.before fields)
 added_new singles given fields s e f = kept_more singles given s
     ∙ ap (option_or (given_at singles s)) (rw (single_is s fields, e, f) refl)
@@ -42,7 +42,7 @@ same_kept : (singles : List Given) (t s : Single) → same_single t s ≡ true �
 same_kept singles t s e h = subst (λ (x : Single). is_some (given_at singles x) ≡ true) (same_true the_type tt t s e) h
 
 -- one that is kept already
-pub added_again : (singles : List Given) (t : Single) (before : ℕ) (fields : List (List ℕ)) (s : Single) → single_in (said fields) ≡ Some t → is_some (given_at singles t) ≡ true
+pub added_again : (singles : List Given) (t : Single) (before : ℕ) (fields : List (List ℕ)) (s : Single) → single_in (directive_said fields) ≡ Some t → is_some (given_at singles t) ≡ true
     → given_at singles s ≡ option_or (given_at singles s) (single_here s before fields)
 added_again singles t before fields s e h = rw (single_is s fields, e)
     (old_or (given_at singles s) (same_single t s) (Some (before, field fields 1)) (λ k. same_kept singles t s k h))
@@ -52,7 +52,7 @@ told_some None h = h
 told_some (Some given) h = refl
 
 -- a line without one
-pub added_none : (singles : List Given) (before : ℕ) (fields : List (List ℕ)) (s : Single) → single_in (said fields) ≡ None
+pub added_none : (singles : List Given) (before : ℕ) (fields : List (List ℕ)) (s : Single) → single_in (directive_said fields) ≡ None
     → given_at singles s ≡ option_or (given_at singles s) (single_here s before fields)
 added_none singles before fields s e = rw (single_is s fields, e) (sym (or_none (given_at singles s)))
 

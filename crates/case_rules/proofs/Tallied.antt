@@ -14,7 +14,7 @@ use Rattle.case_lines.specs.Fields.{field}
 use Rattle.case_rules.specs.declared.parts.Part.{Part}
 use Rattle.case_rules.specs.declared.tally.Counts.{Counts}
 use Rattle.case_rules.specs.declared.tally.Tally.{Tally}
-use Rattle.case_rules.specs.Said.{version_of, said, named_by, same_part, defines_part}
+use Rattle.case_rules.specs.Said.{version_of, directive_said, named_by, same_part, defines_part}
 use Rattle.case_rules.specs.Counts.{is_table, is_node, is_pipe, is_sampled, count_of, is_incomplete, is_too_large, count_rules}
 use Rattle.case_rules.specs.Known.{same_bytes, same_key, or_index, one_if, is_every, is_named, names_such, index_from, single_here, single_from, given_at, lacks_single}
 use Rattle.case_rules.specs.Tallies.{nothing, counted, IsFew, IsTally, IsAdded, IsTallied}
@@ -22,15 +22,15 @@ use Rattle.case_rules.proofs.SinglesKept.{or_none, some_single}
 use Rattle.std.specs.Option.{option_or}
 use Rattle.case_model.proofs.ListFacts.{option_or-assoc}
 
-pub count_more : (p : Option Directive → Bool) (fields : List (List ℕ)) (lines : List (List (List ℕ))) → count_of p (fields ∷ lines) ≡ one_if (p (said fields)) + count_of p lines
+pub count_more : (p : Option Directive → Bool) (fields : List (List ℕ)) (lines : List (List (List ℕ))) → count_of p (fields ∷ lines) ≡ one_if (p (directive_said fields)) + count_of p lines
 unfolding count_of
-count_more p fields lines = sum_by-cons (λ f. one_if (p (said f))) fields lines
+count_more p fields lines = sum_by-cons (λ f. one_if (p (directive_said f))) fields lines
 
 count_none : (p : Option Directive → Bool) (n m : ℕ) → n + count_of p [] ≡ m → n ≡ m
 unfolding count_of
 count_none p n m h = omega (arith, h)
 
-count_step : (p : Option Directive → Bool) (fields : List (List ℕ)) (lines : List (List (List ℕ))) (n m all : ℕ) → m ≡ n + one_if (p (said fields)) → n + count_of p (fields ∷ lines) ≡ all → m + count_of p lines ≡ all
+count_step : (p : Option Directive → Bool) (fields : List (List ℕ)) (lines : List (List (List ℕ))) (n m all : ℕ) → m ≡ n + one_if (p (directive_said fields)) → n + count_of p (fields ∷ lines) ≡ all → m + count_of p lines ≡ all
 count_step p fields lines n m all e h = omega (arith, e, h, count_more p fields lines)
 
 moved : (old : Option ℕ) (b : Bool) (n : ℕ) (later : Option ℕ) → option_or (or_index old b n) later ≡ option_or old (cond b (Some n) later)
@@ -38,9 +38,9 @@ moved (Some x) b n later = refl
 moved None true n later = refl
 moved None false n later = refl
 
-index_step : (counts : Option Directive → Bool) (test : List (List ℕ) → Bool) (n m : ℕ) (fields : List (List ℕ)) (rest : List (List (List ℕ))) (old new all : Option ℕ) → new ≡ or_index old (test fields) n → m ≡ n + one_if (counts (said fields))
+index_step : (counts : Option Directive → Bool) (test : List (List ℕ) → Bool) (n m : ℕ) (fields : List (List ℕ)) (rest : List (List (List ℕ))) (old new all : Option ℕ) → new ≡ or_index old (test fields) n → m ≡ n + one_if (counts (directive_said fields))
     → option_or old (index_from counts test n (fields ∷ rest)) ≡ all → option_or new (index_from counts test m rest) ≡ all
-index_step counts test n m fields rest old new all e k h = rw (e, k) (moved old (test fields) n (index_from counts test (n + one_if (counts (said fields))) rest) ∙ h)
+index_step counts test n m fields rest old new all e k h = rw (e, k) (moved old (test fields) n (index_from counts test (n + one_if (counts (directive_said fields))) rest) ∙ h)
 
 or_moved : (a b c : Bool) → ((b || a) || c) ≡ (a || (b || c))
 or_moved true true c = refl
@@ -72,13 +72,13 @@ tallied_none t all version counts kinds names tables nodes pipes singles = recor
 -- one more line is read
 pub tallied_more : (t u : Tally) (fields : List (List ℕ)) (rest all : List (List (List ℕ))) → IsAdded t u fields → IsTallied t (fields ∷ rest) all → IsTallied u rest all
 tallied_more t u fields rest all a h =
-    let m = counts_more t.counts (said fields) in
+    let m = counts_more t.counts (directive_said fields) in
     let c = a.counts in
     let lines : u.counts.lines ≡ t.counts.lines + 1 = rw c m.0 in
-    let tables : u.counts.tables ≡ t.counts.tables + one_if (is_table (said fields)) = rw c m.1 in
-    let nodes : u.counts.nodes ≡ t.counts.nodes + one_if (is_node (said fields)) = rw c m.2 in
-    let pipes : u.counts.pipes ≡ t.counts.pipes + one_if (is_pipe (said fields)) = rw c m.3 in
-    let probes : u.counts.probes ≡ t.counts.probes + one_if (is_sampled (said fields)) = rw c m.4 in
+    let tables : u.counts.tables ≡ t.counts.tables + one_if (is_table (directive_said fields)) = rw c m.1 in
+    let nodes : u.counts.nodes ≡ t.counts.nodes + one_if (is_node (directive_said fields)) = rw c m.2 in
+    let pipes : u.counts.pipes ≡ t.counts.pipes + one_if (is_pipe (directive_said fields)) = rw c m.3 in
+    let probes : u.counts.probes ≡ t.counts.probes + one_if (is_sampled (directive_said fields)) = rw c m.4 in
     record {
       version = a.version ∙ h.version;
       kinds = λ part name. rw (a.kinds part name) (or_moved (contains same_key t.kinds (part, name)) (defines_part part name.now fields) (list_any (defines_part part name.now) rest) ∙ h.kinds part name);
@@ -129,7 +129,7 @@ pub lines_next : (c u : Counts) (directive : Option Directive) → u ≡ counted
 lines_next c u directive e = rw e (counts_more c directive).0
 
 -- a name that a line defines, by its directive
-pub name_added : (is_such : Option Directive → Bool) (b : Bool) (o : Option Directive) (fields : List (List ℕ)) (name : List ℕ) (old new : Option ℕ) (index : ℕ) → b ≡ is_such o → o ≡ said fields
+pub name_added : (is_such : Option Directive → Bool) (b : Bool) (o : Option Directive) (fields : List (List ℕ)) (name : List ℕ) (old new : Option ℕ) (index : ℕ) → b ≡ is_such o → o ≡ directive_said fields
     → new ≡ or_index old (b && nat_lt 1 (length fields) && bytes_eq (field fields 1) name) index → new ≡ or_index old (names_such is_such name fields) index
 unfolding names_such
 name_added is_such b o fields name old new index e k h = rw (← k, ← e) h
@@ -140,7 +140,7 @@ chosen true false d = refl
 chosen false b d = refl
 
 -- one more line's name among the names of lines
-pub added : (part own : Part) (name text : List ℕ) (fields : List (List ℕ)) (d : Bool) → named_by (said fields) ≡ Some own → 1 < length fields → text ≡ field fields 1
+pub added : (part own : Part) (name text : List ℕ) (fields : List (List ℕ)) (d : Bool) → named_by (directive_said fields) ≡ Some own → 1 < length fields → text ≡ field fields 1
     → cond (same_part own part && bytes_eq text name) true d ≡ (defines_part part name fields || d)
 unfolding defines_part
 added part own name text fields d e l f =
@@ -156,11 +156,11 @@ index_none : (o : Option ℕ) (n : ℕ) → o ≡ or_index o false n
 index_none None n = refl
 index_none (Some x) n = refl
 
-pub no_name : (is_such : Option Directive → Bool) (fields : List (List ℕ)) (name : List ℕ) (o : Option ℕ) (n : ℕ) → said fields ≡ None → is_such None ≡ false → o ≡ or_index o (names_such is_such name fields) n
+pub no_name : (is_such : Option Directive → Bool) (fields : List (List ℕ)) (name : List ℕ) (o : Option ℕ) (n : ℕ) → directive_said fields ≡ None → is_such None ≡ false → o ≡ or_index o (names_such is_such name fields) n
 unfolding names_such
 no_name is_such fields name o n e f = rw (e, f) (index_none o n)
 
-pub no_kind : (part : Part) (fields : List (List ℕ)) (name : List ℕ) (b : Bool) → said fields ≡ None → b ≡ (defines_part part name fields || b)
+pub no_kind : (part : Part) (fields : List (List ℕ)) (name : List ℕ) (b : Bool) → directive_said fields ≡ None → b ≡ (defines_part part name fields || b)
 unfolding defines_part
 no_kind part fields name b e = rw e refl
 

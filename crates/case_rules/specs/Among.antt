@@ -12,12 +12,13 @@ use Rattle.case_lines.specs.Fields.{field, is_marked, referred, field_kind, has_
 use Rattle.case_lines.specs.Words.{directive_in}
 use Rattle.case_lines.specs.Alone.{breaks_alone}
 use Rattle.case_rules.specs.declared.parts.Part.TheVariants.{ANode, APipe}
-use Rattle.case_rules.specs.Said.{line_at, version_of, said, is_definition, defines, defines_part}
+use Rattle.case_rules.specs.Said.{line_at, version_of, directive_said, is_definition, defines}
+use Rattle.case_rules.specs.Said.{defines_part}
 use Rattle.case_rules.specs.Said.{table_part, is_single, is_single_of}
 
 -- the directive of a line in the version of all lines
 abbrev pub directive_among : List (List (List ℕ)) → List (List ℕ) → Option Directive
-directive_among all fields = directive_in (version_of all) (said fields)
+directive_among all fields = directive_in (version_of all) (directive_said fields)
 
 -- whether a field uses a name that none of these lines defines in the kind that is wanted
 unfoldable pub is_unknown : List (List (List ℕ)) → FieldKind → List ℕ → Bool

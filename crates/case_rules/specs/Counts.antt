@@ -6,7 +6,7 @@ use Rattle.case_model.specs.Sets.{Rules}
 use Rattle.case_lines.specs.declared.words.Directive.{Directive}
 use Rattle.case_lines.specs.declared.words.Directive.TheVariants.{OfTable, OfNode, OfPipe}
 use Rattle.case_lines.specs.declared.words.Directive.TheVariants.{OfProbe, OfWatch}
-use Rattle.case_rules.specs.Said.{said, is_single_of}
+use Rattle.case_rules.specs.Said.{directive_said, is_single_of}
 
 -- whether a directive is a table, a node, a pipe, or a probe or watch
 abbrev pub is_table : Option Directive → Bool
@@ -28,7 +28,7 @@ is_sampled _ = false
 
 -- how many lines have such a directive
 unfoldable pub count_of : (Option Directive → Bool) → List (List (List ℕ)) → ℕ
-count_of is_such lines = count_by (λ fields. is_such (said fields)) lines
+count_of is_such lines = count_by (λ fields. is_such (directive_said fields)) lines
 
 -- whether there is no time step, no count of steps or no pipe
 unfoldable pub is_incomplete : List (List (List ℕ)) → Bool

@@ -17,7 +17,7 @@ use Rattle.case_lines.specs.declared.words.Directive.TheVariants.{OfSingle}
 use Rattle.case_lines.specs.Fields.{field}
 use Rattle.case_rules.specs.declared.parts.Part.{Part}
 use Rattle.case_rules.specs.declared.singles.Given.{Given}
-use Rattle.case_rules.specs.Said.{said, named_by, is_some_part, same_part, defines_part}
+use Rattle.case_rules.specs.Said.{directive_said, named_by, is_some_part, same_part, defines_part}
 use Rattle.case_rules.specs.Said.{is_single_of}
 
 abbrev pub same_bytes : Bor (List ℕ) → Bor (List ℕ) → Bool
@@ -52,7 +52,7 @@ is_named directive = is_some_part (named_by directive)
 -- whether a line with such a directive defines this name
 unfoldable pub names_such : (Option Directive → Bool) → List ℕ → List (List ℕ) → Bool
 names_such is_such name fields =
-    is_such (said fields) && nat_lt 1 (length fields) && bytes_eq (field fields 1) name
+    is_such (directive_said fields) && nat_lt 1 (length fields) && bytes_eq (field fields 1) name
 
 -- how many lines that count stand before the first that passes a test, with those before all of
 -- these lines
@@ -61,7 +61,7 @@ abbrev pub index_from : (Option Directive → Bool) → (List (List ℕ) → Boo
 index_from counts test before [] = None
 index_from counts test before (fields ∷ more) =
     if test fields then Some before
-    else index_from counts test (before + one_if (counts (said fields))) more
+    else index_from counts test (before + one_if (counts (directive_said fields))) more
 
 -- each name has the index, among the lines that count, of the first line with such a directive that
 -- defines it

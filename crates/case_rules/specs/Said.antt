@@ -25,8 +25,8 @@ abbrev pub version_of : List (List (List ℕ)) → ℕ
 version_of lines = heading_version (line_at lines 0)
 
 -- the directive of a line, in whatever version, if it has one
-unfoldable pub said : List (List ℕ) → Option Directive
-said fields = directive_of (field fields 0)
+unfoldable pub directive_said : List (List ℕ) → Option Directive
+directive_said fields = directive_of (field fields 0)
 
 -- the kind of part that a table of a kind is
 abbrev pub table_part : TableKind → Part
@@ -59,7 +59,7 @@ is_some_part None = false
 
 -- whether a line defines a name: its directive does so, and it has a second field
 unfoldable pub is_definition : List (List ℕ) → Bool
-is_definition fields = is_some_part (named_by (said fields)) && nat_lt 1 (length fields)
+is_definition fields = is_some_part (named_by (directive_said fields)) && nat_lt 1 (length fields)
 
 -- whether a line defines this name
 unfoldable pub defines : List ℕ → List (List ℕ) → Bool
@@ -68,7 +68,7 @@ defines name fields = is_definition fields && bytes_eq (field fields 1) name
 -- whether a line defines this name for a part of this kind
 unfoldable pub defines_part : Part → List ℕ → List (List ℕ) → Bool
 defines_part part name fields =
-    has_part part (named_by (said fields)) && nat_lt 1 (length fields)
+    has_part part (named_by (directive_said fields)) && nat_lt 1 (length fields)
     && bytes_eq (field fields 1) name
 
 abbrev pub is_single_directive : Option Directive → Bool
@@ -77,7 +77,7 @@ is_single_directive _ = false
 
 -- whether a line has a single directive, and this one
 unfoldable pub is_single : List (List ℕ) → Bool
-is_single fields = is_single_directive (said fields)
+is_single fields = is_single_directive (directive_said fields)
 
 unfoldable pub is_single_of : List ℕ → List (List ℕ) → Bool
 is_single_of word fields = is_single fields && bytes_eq (field fields 0) word

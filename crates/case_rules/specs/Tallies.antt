@@ -9,7 +9,7 @@ use Rattle.case_lines.specs.declared.words.Directive.{Directive}
 use Rattle.case_rules.specs.declared.parts.Part.{Part}
 use Rattle.case_rules.specs.declared.tally.Counts.{Counts}
 use Rattle.case_rules.specs.declared.tally.Tally.{Tally}
-use Rattle.case_rules.specs.Said.{version_of, said, defines_part}
+use Rattle.case_rules.specs.Said.{version_of, directive_said, defines_part}
 use Rattle.case_rules.specs.Counts.{is_table, is_node, is_pipe, is_sampled, count_of}
 use Rattle.case_rules.specs.Known.{same_bytes, same_key, AreNames, or_index, one_if}
 use Rattle.case_rules.specs.Known.{is_every, is_named, names_such, index_from, AreIndexed}
@@ -68,7 +68,7 @@ IsKindAdded old new fields =
 -- a tally after one more line
 pub record IsAdded (old new : Tally) (fields : List (List ℕ)) : Type 0 where
   pub version : new.version ≡ old.version
-  pub counts : new.counts ≡ counted old.counts (said fields)
+  pub counts : new.counts ≡ counted old.counts (directive_said fields)
   pub kinds : IsKindAdded old.kinds new.kinds fields
   pub names : IsNameAdded old.names new.names is_named old.counts.lines fields
   pub tables : IsNameAdded old.tables new.tables is_table old.counts.tables fields

@@ -12,7 +12,7 @@ ghost use Rattle.case_rules.specs.Among.{is_unknown as is_unknown_in};
 ghost use Rattle.case_rules.specs.Among.{uses_unknown as uses_unknown_in, breaks_counted};
 ghost use Rattle.case_rules.specs.Among.{breaks_among, breaks_line};
 
-use crate::parts::{Part, is_definition, said, table_part};
+use crate::parts::{Part, directive_said, is_definition, table_part};
 use crate::singles::{single_in, single_line};
 use crate::tally::Tally;
 use case_lines::{
@@ -36,7 +36,7 @@ pub(crate) fn judge(tally: &Tally, before: u32, line: &Line) -> Option<u8>
     if before == 0 {
         return alone;
     }
-    let directive = directive_in(tally.version, said(line));
+    let directive = directive_in(tally.version, directive_said(line));
     lesser(alone, judge_among(tally, before, directive, line))
 }
 
@@ -88,7 +88,7 @@ fn repeats_single(tally: &Tally, before: u32, line: &Line) -> bool
         result ≡ (is_single_line line.now
         && list_any (is_single_of (field_at line.now 0)) (take before all)) }
 {
-    match single_in(said(line)) {
+    match single_in(directive_said(line)) {
         Some(single) => is_earlier(before, single_line(&tally.singles, single)),
         None => false,
     }

@@ -11,6 +11,6 @@ mod sorts;
 mod tally;
 
 pub use counting::judge_counts;
-pub use parts::{Part, said};
+pub use parts::{Part, directive_said};
 pub use reading::judge_lines;
 pub use tally::{Tally, tally_lines};

@@ -1,6 +1,6 @@
 //! What lines say and define.
 ghost use Rattle.std.specs.Prelude.{◌≡◌, ◌&&◌, length, nat_lt};
-ghost use Rattle.case_rules.specs.Said.{said as said_by, named_by as named_after};
+ghost use Rattle.case_rules.specs.Said.{directive_said as said_by, named_by as named_after};
 ghost use Rattle.case_rules.specs.Said.{table_part as part_of_kind};
 ghost use Rattle.case_rules.specs.Said.{is_definition as is_definition_line, is_some_part};
 
@@ -29,8 +29,8 @@ pub enum Part {
 }
 
 /// The directive of a line, if it has one.
-#[tactic(auto, unfolding(crate::specs::Said::said))]
-pub fn said(line: &Line) -> Option<Directive>
+#[tactic(auto, unfolding(crate::specs::Said::directive_said))]
+pub fn directive_said(line: &Line) -> Option<Directive>
     ensures { result ≡ said_by line.now }
 {
     line.directive()
@@ -74,5 +74,5 @@ pub(crate) fn is_named(directive: Option<Directive>) -> bool
 pub(crate) fn is_definition(line: &Line) -> bool
     ensures { result ≡ is_definition_line line.now }
 {
-    is_named(said(line)) && line.count() > 1
+    is_named(directive_said(line)) && line.count() > 1
 }

@@ -6,7 +6,7 @@ ghost use Rattle.case_rules.specs.Known.{given_at, told};
 ghost use Rattle.case_rules.specs.Known.{line_told, text_told, seen};
 ghost use Rattle.case_rules.specs.Known.{single_here, single_in as single_of_directive};
 
-use crate::parts::said;
+use crate::parts::directive_said;
 use case_lines::{Directive, Line, Single};
 use std::alloc::AllocError;
 
@@ -64,7 +64,7 @@ pub(crate) fn add_single<'a>(
         ≡ option_or (given_at singles.old.items single)
         (single_here single before line.now)) }
 {
-    if let Some(single) = single_in(said(line)) {
+    if let Some(single) = single_in(directive_said(line)) {
         if single_line(singles, single).is_none() {
             let text = line.field(1);
             singles.push(Given {

@@ -13,7 +13,7 @@ ghost use Rattle.case_rules.specs.Known.{seen, text_told, single_from};
 ghost use Rattle.case_rules.specs.Tallies.{counted as counted_more};
 ghost use Rattle.case_rules.specs.Tallies.{IsFew, IsTally, IsAdded, IsKindAdded, IsTallied};
 
-use crate::parts::{Part, is_named, named_by, said};
+use crate::parts::{Part, directive_said, is_named, named_by};
 use crate::singles::{Given, add_single, single_text};
 use crate::sorts::{is_node, is_pipe, is_sampled, is_table};
 use case_lines::{Directive, Line, Single, heading_version, next_line};
@@ -109,7 +109,7 @@ fn add_line<'a>(tally: &mut Tally<'a>, line: &Line<'a>) -> Result<(), AllocError
     requires { IsFew 8_388_608 tally.old.counts }
     ensures { IfOk result (λ u. IsAdded tally.old tally.new line.now) }
 {
-    let directive = said(line);
+    let directive = directive_said(line);
     let counts = tally.counts;
     tally.counts = counted(counts, directive);
     if directive.is_none() {
@@ -144,7 +144,7 @@ fn counted(counts: Counts, directive: Option<Directive>) -> Counts
 fn add_kind<'a>(kinds: &mut HashSet<(Part, &'a [u8])>, line: &Line<'a>) -> Result<(), AllocError>
     ensures { IfOk result (λ u. IsKindAdded kinds.old kinds.new line.now) }
 {
-    if let Some(part) = named_by(said(line)) {
+    if let Some(part) = named_by(directive_said(line)) {
         if line.count() > 1 {
             kinds.insert((part, line.field(1)))?;
         }

@@ -26,7 +26,7 @@ use Rattle.case_lines.specs.Fields.{field, is_marked, field_kind, has_count, has
 use Rattle.case_lines.specs.Tables.{is_disordered}
 use Rattle.case_lines.specs.Quantities.{limits, quantity_in, is_spelt, is_outside}
 use Rattle.case_lines.specs.Alone.{breaks_name, breaks_reference, breaks_number, breaks_friction, breaks_field, breaks_fields, is_readable, breaks_counted, breaks_known, breaks_alone}
-use Rattle.case_rules.specs.Said.{line_at, version_of, said, is_definition, defines, is_single, is_single_of}
+use Rattle.case_rules.specs.Said.{line_at, version_of, directive_said, is_definition, defines, is_single, is_single_of}
 use Rattle.case_rules.specs.Among.{directive_among, uses_unknown, breaks_counted as breaks_others, breaks_among, breaks_line, line_rules}
 use Rattle.case_rules.specs.Counts.{is_incomplete, is_too_large as is_too_many, count_rules}
 use Rattle.netfile.specs.Built.{parts_from, node_by, node_said, nodes_of, pipe_of, pipe_by, pipe_said, pipes_of, probe_by, probe_said, tables_of, case_of}
@@ -233,15 +233,15 @@ parts_behind line_of d says f line m (fields ∷ lines) low high k =
 -- the parts of the case that lines say are on lines of the text
 pipe_there : (lines : List (List (List ℕ))) (p : ℕ) → (pipe_at (case_of lines) p).line < length lines + 2
 unfolding case_of pipe_said
-pipe_there lines p = parts_behind (λ (x : Pipe). x.line) no_pipe (pipe_said (nodes_of lines)) (λ at fields x e. pipe_line (nodes_of lines) (said fields) at fields x e) 1 (length lines + 2) lines (omega arith) (omega arith) p
+pipe_there lines p = parts_behind (λ (x : Pipe). x.line) no_pipe (pipe_said (nodes_of lines)) (λ at fields x e. pipe_line (nodes_of lines) (directive_said fields) at fields x e) 1 (length lines + 2) lines (omega arith) (omega arith) p
 
 node_there : (lines : List (List (List ℕ))) (k : ℕ) → (node_at (case_of lines) k).line < length lines + 2
 unfolding case_of node_said
-node_there lines k = parts_behind (λ (x : Node). x.line) no_node (node_said (tables_of lines)) (λ at fields x e. node_line (tables_of lines) (said fields) at fields x e) 1 (length lines + 2) lines (omega arith) (omega arith) k
+node_there lines k = parts_behind (λ (x : Node). x.line) no_node (node_said (tables_of lines)) (λ at fields x e. node_line (tables_of lines) (directive_said fields) at fields x e) 1 (length lines + 2) lines (omega arith) (omega arith) k
 
 probe_there : (lines : List (List (List ℕ))) (q : ℕ) → (probe_at (case_of lines) q).line < length lines + 2
 unfolding case_of probe_said
-probe_there lines q = parts_behind (λ (x : Probe). x.line) no_probe (probe_said (pipes_of lines) (nodes_of lines)) (λ at fields x e. probe_line (pipes_of lines) (nodes_of lines) (said fields) at fields x e) 1 (length lines + 2) lines (omega arith) (omega arith) q
+probe_there lines q = parts_behind (λ (x : Probe). x.line) no_probe (probe_said (pipes_of lines) (nodes_of lines)) (λ at fields x e. probe_line (pipes_of lines) (nodes_of lines) (directive_said fields) at fields x e) 1 (length lines + 2) lines (omega arith) (omega arith) q
 
 -- the numbers of the rules of parts
 pipe_numbers : (dt tolerance : ℤ) (p : Pipe) (n : ℕ) → IsTrue (breaks_pipe dt tolerance p n) → IsNumber n

@@ -22,7 +22,7 @@ use Rattle.case_lines.specs.Quantities.{limits, quantity_in, is_spelt, is_outsid
 use Rattle.case_lines.specs.Fields.{field, is_heading, is_version, field_kind, has_count, has_too_many, node_fields}
 use Rattle.case_lines.specs.Tables.{is_disordered}
 use Rattle.case_lines.specs.Alone.{breaks_number, breaks_field, breaks_fields, is_readable, breaks_counted, breaks_known, breaks_alone, breaks_name}
-use Rattle.case_rules.specs.Said.{line_at, version_of, said, named_by, is_some_part, is_definition, defines}
+use Rattle.case_rules.specs.Said.{line_at, version_of, directive_said, named_by, is_some_part, is_definition, defines}
 use Rattle.case_rules.specs.Among.{directive_among, is_unknown, uses_unknown, breaks_counted as breaks_counted_among, breaks_among, breaks_line, line_rules}
 use Rattle.fixed_num.proofs.Orders.{at_most_of}
 use Rattle.case_model.specs.declared.cases.TableKind.{TableKind}
@@ -41,7 +41,7 @@ pub record IsKept (lines : List (List (List ℕ))) (d : Directive) (fields : Lis
 
 -- the same of a line with whatever directive
 abbrev pub IsLine : List (List (List ℕ)) → List (List ℕ) → Type 0
-IsLine lines fields = (d : Directive) → said fields ≡ Some d → IsKept lines d fields
+IsLine lines fields = (d : Directive) → directive_said fields ≡ Some d → IsKept lines d fields
 
 -- where none of a range of numbers passes a test, each of them fails
 failing : (p : ℕ → Bool) (n k : ℕ) (b : Bool) → p k ≡ b → 1 ≤ k → k ≤ n → list_any p (range_with_len 1 n) ≡ false → b ≡ false
@@ -83,8 +83,8 @@ heading_word fields h =
     let front = (and_parts ((length fields == 2) && bytes_eq (field fields 0) (codes "surge")) (is_version (field fields 1)) h).0 in
     (and_parts (length fields == 2) (bytes_eq (field fields 0) (codes "surge")) front).1
 
-heading_none : (fields : List (List ℕ)) → is_heading fields ≡ true → said fields ≡ None
-unfolding said
+heading_none : (fields : List (List ℕ)) → is_heading fields ≡ true → directive_said fields ≡ None
+unfolding directive_said
 heading_none fields h = ap directive_of ((bytes_eq-Decides (field fields 0) (codes "surge")).0 (heading_word fields h)) ∙ surge_none
 
 first_heading : (version : ℕ) (fields : List (List ℕ)) → breaks_alone version 1 fields 1 ≡ false → is_heading fields ≡ true
@@ -92,18 +92,18 @@ unfolding breaks_alone
 first_heading version fields h = not-false (is_heading fields) h
 
 -- nor has a line without fields
-empty_none : (fields : List (List ℕ)) → (length fields == 0) ≡ true → said fields ≡ None
-unfolding said directive_of single_of table_of node_of
+empty_none : (fields : List (List ℕ)) → (length fields == 0) ≡ true → directive_said fields ≡ None
+unfolding directive_said directive_of single_of table_of node_of
 empty_none [] h = refl
 empty_none (f ∷ fields) h = absurd (grind (arith, nat_tests))
 
-some_fields : (fields : List (List ℕ)) (d : Directive) (b : Bool) → (length fields == 0) ≡ b → said fields ≡ Some d → b ≡ false
+some_fields : (fields : List (List ℕ)) (d : Directive) (b : Bool) → (length fields == 0) ≡ b → directive_said fields ≡ Some d → b ≡ false
 some_fields fields d true e h = absurd (let n = empty_none fields e in cc)
 some_fields fields d false e h = refl
 
-known_none : (version line number : ℕ) (fields : List (List ℕ)) (d : Directive) → (line == 1) ≡ false → said fields ≡ Some d
+known_none : (version line number : ℕ) (fields : List (List ℕ)) (d : Directive) → (line == 1) ≡ false → directive_said fields ≡ Some d
     → breaks_alone version line fields number ≡ false → breaks_known (directive_in version (Some d)) fields number ≡ false
-unfolding breaks_alone said
+unfolding breaks_alone directive_said
 known_none version line number fields d e s h =
     let z : (length fields == 0) ≡ false = some_fields fields d (length fields == 0) refl s in
     rw (e, z, s) at h
@@ -152,7 +152,7 @@ not_disordered fields d f g h =
     rw (f, g) at r
 
 unknown_none : (before lines : List (List (List ℕ))) (fields : List (List ℕ)) (d : Directive) (k : ℕ) → has_directive (version_of lines) d ≡ true
-    → has_count d (length fields) ≡ true → said fields ≡ Some d → breaks_among before lines (directive_among lines fields) fields 7 ≡ false → 1 ≤ k → k < length fields
+    → has_count d (length fields) ≡ true → directive_said fields ≡ Some d → breaks_among before lines (directive_among lines fields) fields 7 ≡ false → 1 ≤ k → k < length fields
     → is_unknown lines (field_kind d k) (field fields k) ≡ false
 unfolding breaks_among breaks_counted_among uses_unknown
 unknown_none before lines fields d k a c s h l m =
@@ -160,7 +160,7 @@ unknown_none before lines fields d k a c s h l m =
     failing (λ j. is_unknown lines (field_kind d j) (field fields j)) (length fields - 1) k (is_unknown lines (field_kind d k) (field fields k)) refl l (omega arith) b
 
 -- a line behind the first
-line_kept : (lines : List (List (List ℕ))) (k : ℕ) (d : Directive) → 1 ≤ k → k < length lines → IsEmpty (line_rules lines) → said (line_at lines k) ≡ Some d → IsKept lines d (line_at lines k)
+line_kept : (lines : List (List (List ℕ))) (k : ℕ) (d : Directive) → 1 ≤ k → k < length lines → IsEmpty (line_rules lines) → directive_said (line_at lines k) ≡ Some d → IsKept lines d (line_at lines k)
 line_kept lines k d l h empty s =
     let e : (k + 1 == 1) ≡ false = ne_eqb (k + 1) 1 (λ z. absurd (omega arith)) in
     let fields = line_at lines k in
@@ -181,7 +181,7 @@ line_kept lines k d l h empty s =
     }
 
 -- a line with a directive is not the first
-pub not_first : (lines : List (List (List ℕ))) (k : ℕ) (d : Directive) → k < length lines → IsEmpty (line_rules lines) → said (line_at lines k) ≡ Some d → 1 ≤ k
+pub not_first : (lines : List (List (List ℕ))) (k : ℕ) (d : Directive) → k < length lines → IsEmpty (line_rules lines) → directive_said (line_at lines k) ≡ Some d → 1 ≤ k
 not_first lines zero d h empty s = absurd (let n = heading_none (line_at lines 0) (first_heading (version_of lines) (line_at lines 0) (alone_none (take 0 lines) lines 1 1 (line_at lines 0) (line_none lines 0 1 h empty))) in cc)
 not_first lines (suc k) d h empty s = omega arith
 
@@ -253,12 +253,12 @@ named_kept lines d fields p k =
     let n = some_name d (length fields) p k.counted in
     (n, short_name (field fields 1) (let f = k.each 1 10 (omega arith) (ltb-true 1 (length fields) n) in rw (new_name d p) at f))
 
-named_said : (lines : List (List (List ℕ))) (o : Option Directive) (fields : List (List ℕ)) → said fields ≡ o → IsLine lines fields → is_some_part (named_by o) ≡ true → (nat_lt 1 (length fields) ≡ true) × (length (field fields 1) ≤ 32)
+named_said : (lines : List (List (List ℕ))) (o : Option Directive) (fields : List (List ℕ)) → directive_said fields ≡ o → IsLine lines fields → is_some_part (named_by o) ≡ true → (nat_lt 1 (length fields) ≡ true) × (length (field fields 1) ≤ 32)
 named_said lines None fields e f h = absurd (cc)
 named_said lines (Some d) fields e f h = named_kept lines d fields h (f d e)
 
 named_line : (lines : List (List (List ℕ))) (fields : List (List ℕ)) → IsLine lines fields → IsNamed fields
-named_line lines fields f h = named_said lines (said fields) fields refl f h
+named_line lines fields f h = named_said lines (directive_said fields) fields refl f h
 
 -- a place
 low_place : (x : ℤ) → IsWithin (pos 0) (pos 65_536) x → unsigned_abs x ≤ 65_536
@@ -288,12 +288,12 @@ name_new : (before all : List (List (List ℕ))) (fields : List (List ℕ)) (d :
 unfolding breaks_counted_among
 name_new before all fields d h = (or_parts (is_definition fields && list_any (defines (field fields 1)) before) false (or_parts _ false h).0).0
 
-counted_among : (before all : List (List (List ℕ))) (fields : List (List ℕ)) (d : Directive) (number : ℕ) → has_directive (version_of all) d ≡ true → has_count d (length fields) ≡ true → said fields ≡ Some d → breaks_among before all (directive_among all fields) fields number ≡ false → breaks_counted_among before all d fields number ≡ false
+counted_among : (before all : List (List (List ℕ))) (fields : List (List ℕ)) (d : Directive) (number : ℕ) → has_directive (version_of all) d ≡ true → has_count d (length fields) ≡ true → directive_said fields ≡ Some d → breaks_among before all (directive_among all fields) fields number ≡ false → breaks_counted_among before all d fields number ≡ false
 unfolding breaks_among
 counted_among before all fields d number a c s h = rw (s, a, c) at h
 
 -- a line that defines a name comes behind no other that does
-pub name_once : (lines : List (List (List ℕ))) → IsEmpty (line_rules lines) → (k : ℕ) (d : Directive) → k < length lines → said (line_at lines k) ≡ Some d → is_definition (line_at lines k) ≡ true
+pub name_once : (lines : List (List (List ℕ))) → IsEmpty (line_rules lines) → (k : ℕ) (d : Directive) → k < length lines → directive_said (line_at lines k) ≡ Some d → is_definition (line_at lines k) ≡ true
     → list_any (defines (field (line_at lines k) 1)) (take k lines) ≡ false
 name_once lines empty k d h s e =
     let fields = line_at lines k in

@@ -18,7 +18,7 @@ use Rattle.case_lines.specs.declared.fields.FieldKind.{FieldKind}
 use Rattle.case_lines.specs.declared.fields.FieldKind.TheVariants.{Reference, Number, Value, NodeName, PipeName}
 use Rattle.case_lines.specs.Quantities.{amount, limits}
 use Rattle.case_lines.specs.Fields.{field, field_kind, node_fields, has_count, is_marked, referred}
-use Rattle.case_rules.specs.Said.{line_at, said, table_part, defines_part}
+use Rattle.case_rules.specs.Said.{line_at, directive_said, table_part, defines_part}
 use Rattle.case_rules.specs.Among.{line_rules, is_unknown}
 use Rattle.netfile.specs.Built.{kind_said, value_said, node_by, node_said, nodes_from, nodes_of, tables_of, node_index, pipe_of, pipe_by, pipe_said, pipes_from, pipes_of, pipe_index, probe_by, probe_said, probes_from, probes_of, table_index}
 use Rattle.netfile.proofs.PartsSaid.{found, all_parts, listed}
@@ -138,7 +138,7 @@ node_raised lines node f k = size_within 10_000_000_000 (amount Elevation (field
 pub nodes_in : (lines : List (List (List ℕ))) → IsEmpty (line_rules lines) → All (IsNode (tables_of lines)) (nodes_of lines)
 unfolding node_said
 nodes_in lines empty = All-from_recursion (IsNode (tables_of lines)) (nodes_of lines) (all_parts (IsNode (tables_of lines)) (node_said (tables_of lines)) 1 lines
-    (λ k at h. by_node (IsNode (tables_of lines)) (tables_of lines) (said (line_at lines k)) at (line_at lines k)
+    (λ k at h. by_node (IsNode (tables_of lines)) (tables_of lines) (directive_said (line_at lines k)) at (line_at lines k)
     (λ node s. let kept = kept_at lines k h empty (OfNode node) s in record { elevation = node_raised lines node (line_at lines k) kept; kind = node_kind lines empty node (line_at lines k) kept })))
 
 -- whether a node has this name
@@ -155,7 +155,7 @@ node_here name tables other line fields more h = absurd (no_such ANode name fiel
 node_found : (lines : List (List (List ℕ))) (name : List ℕ) → list_any (defines_part ANode name) lines ≡ true → node_index (nodes_of lines) name < length (nodes_of lines)
 unfolding node_index node_said
 node_found lines name h = (found (is_node_named name) (nodes_of lines) (listed (is_node_named name) (defines_part ANode name) (node_said (tables_of lines)) 1 lines
-    (λ at fields more e. node_here name (tables_of lines) (said fields) at fields more (sym (defined_by ANode name fields) ∙ e)) h)).there
+    (λ at fields more e. node_here name (tables_of lines) (directive_said fields) at fields more (sym (defined_by ANode name fields) ∙ e)) h)).there
 
 -- the same of a field that must name a node
 node_named : (lines : List (List (List ℕ))) (text : List ℕ) → is_unknown lines NodeName text ≡ false → node_index (nodes_of lines) text < length (nodes_of lines)
@@ -184,7 +184,7 @@ joined lines at fields k =
 pub joins_in : (lines : List (List (List ℕ))) → IsEmpty (line_rules lines) → All (IsJoined (length (nodes_of lines))) (pipes_of lines)
 unfolding pipe_said
 joins_in lines empty = All-from_recursion (IsJoined (length (nodes_of lines))) (pipes_of lines) (all_parts (IsJoined (length (nodes_of lines))) (pipe_said (nodes_of lines)) 1 lines
-    (λ k at h. by_pipe (IsJoined (length (nodes_of lines))) (nodes_of lines) (said (line_at lines k)) at (line_at lines k) (λ s. joined lines at (line_at lines k) (kept_at lines k h empty OfPipe s))))
+    (λ k at h. by_pipe (IsJoined (length (nodes_of lines))) (nodes_of lines) (directive_said (line_at lines k)) at (line_at lines k) (λ s. joined lines at (line_at lines k) (kept_at lines k h empty OfPipe s))))
 
 pipe_in : (lines : List (List (List ℕ))) (nodes : List Node) (line : ℕ) (fields : List (List ℕ)) → IsKept lines OfPipe fields → IsPipe (pipe_of nodes line fields)
 unfolding pipe_of field_kind
@@ -202,7 +202,7 @@ pipe_in lines nodes line fields h =
 pub pipes_in : (lines : List (List (List ℕ))) → IsEmpty (line_rules lines) → All IsPipe (pipes_of lines)
 unfolding pipe_said
 pipes_in lines empty = All-from_recursion IsPipe (pipes_of lines) (all_parts IsPipe (pipe_said (nodes_of lines)) 1 lines
-    (λ k at h. by_pipe IsPipe (nodes_of lines) (said (line_at lines k)) at (line_at lines k) (λ s. pipe_in lines (nodes_of lines) at (line_at lines k) (kept_at lines k h empty OfPipe s))))
+    (λ k at h. by_pipe IsPipe (nodes_of lines) (directive_said (line_at lines k)) at (line_at lines k) (λ s. pipe_in lines (nodes_of lines) at (line_at lines k) (kept_at lines k h empty OfPipe s))))
 
 -- whether a pipe has this name
 abbrev is_pipe_named : List ℕ → Pipe → Bool
@@ -223,7 +223,7 @@ pipe_here name nodes other line fields more h = absurd (no_such APipe name field
 pipe_found : (lines : List (List (List ℕ))) (name : List ℕ) → list_any (defines_part APipe name) lines ≡ true → pipe_index (pipes_of lines) name < length (pipes_of lines)
 unfolding pipe_index pipe_said
 pipe_found lines name h = (found (is_pipe_named name) (pipes_of lines) (listed (is_pipe_named name) (defines_part APipe name) (pipe_said (nodes_of lines)) 1 lines
-    (λ at fields more e. pipe_here name (nodes_of lines) (said fields) at fields more (sym (defined_by APipe name fields) ∙ e)) h)).there
+    (λ at fields more e. pipe_here name (nodes_of lines) (directive_said fields) at fields more (sym (defined_by APipe name fields) ∙ e)) h)).there
 
 -- the same of a field that must name a pipe
 pipe_named : (lines : List (List (List ℕ))) (text : List ℕ) → is_unknown lines PipeName text ≡ false → pipe_index (pipes_of lines) text < length (pipes_of lines)
@@ -266,5 +266,5 @@ pub spots_in : (lines : List (List (List ℕ))) → IsEmpty (line_rules lines) �
 unfolding probe_said
 spots_in lines empty = All-from_recursion (λ (q : Probe). IsSpot (length (pipes_of lines)) (length (nodes_of lines)) q.at) (probes_of lines)
     (all_parts (λ (q : Probe). IsSpot (length (pipes_of lines)) (length (nodes_of lines)) q.at) (probe_said (pipes_of lines) (nodes_of lines)) 1 lines
-    (λ k at h. by_probe (λ (q : Probe). IsSpot (length (pipes_of lines)) (length (nodes_of lines)) q.at) (pipes_of lines) (nodes_of lines) (said (line_at lines k)) at (line_at lines k)
+    (λ k at h. by_probe (λ (q : Probe). IsSpot (length (pipes_of lines)) (length (nodes_of lines)) q.at) (pipes_of lines) (nodes_of lines) (directive_said (line_at lines k)) at (line_at lines k)
     (λ s. probe_kept lines (line_at lines k) (kept_at lines k h empty OfProbe s)) (λ s. watch_kept lines (line_at lines k) (kept_at lines k h empty OfWatch s))))

@@ -11,7 +11,7 @@ use Rattle.case_model.specs.declared.cases.Probe.{Probe}
 use Rattle.case_model.specs.Sets.{IsEmpty}
 use Rattle.case_lines.specs.declared.words.Directive.{Directive}
 use Rattle.case_lines.specs.declared.words.Directive.TheVariants.{OfSingle, OfTable, OfNode, OfPipe, OfProbe, OfWatch}
-use Rattle.case_rules.specs.Said.{said, is_single_of, named_by, is_some_part, line_at}
+use Rattle.case_rules.specs.Said.{directive_said, is_single_of, named_by, is_some_part, line_at}
 use Rattle.case_rules.specs.Counts.{is_table, is_node, is_pipe, is_sampled, count_of, is_incomplete, is_too_large, count_rules}
 use Rattle.netfile.specs.Built.{parts_from, table_by, table_said, tables_from, tables_of, node_by, node_said, nodes_from, nodes_of, pipe_by, pipe_said, pipes_from, pipes_of, probe_by, probe_said, probes_from, probes_of, pipe_of}
 use Rattle.case_rules.specs.Known.{one_if, names_such, index_from}
@@ -102,27 +102,27 @@ probe_one : (pipes : List Pipe) (nodes : List Node) (d : Option Directive) (line
 probe_one pipes nodes (Some OfPipe) line fields rest = omega arith
 probe_one pipes nodes _ line fields rest = omega arith
 
-parts_count : {X : Type 0} (says : ℕ → List (List ℕ) → Option X) (is_such : Option Directive → Bool) → ((at : ℕ) (fields : List (List ℕ)) (rest : List X) → length (cons_option (says at fields) rest) ≡ one_if (is_such (said fields)) + length rest)
+parts_count : {X : Type 0} (says : ℕ → List (List ℕ) → Option X) (is_such : Option Directive → Bool) → ((at : ℕ) (fields : List (List ℕ)) (rest : List X) → length (cons_option (says at fields) rest) ≡ one_if (is_such (directive_said fields)) + length rest)
     → (line : ℕ) (lines : List (List (List ℕ))) → length (parts_from says line lines) ≡ count_of is_such lines
 parts_count says is_such f line [] = count_none is_such
 parts_count says is_such f line (fields ∷ lines) =
-    f line fields (parts_from says (line + 1) lines) ∙ ap (λ n. one_if (is_such (said fields)) + n) (parts_count says is_such f (line + 1) lines) ∙ sym (count_more is_such fields lines)
+    f line fields (parts_from says (line + 1) lines) ∙ ap (λ n. one_if (is_such (directive_said fields)) + n) (parts_count says is_such f (line + 1) lines) ∙ sym (count_more is_such fields lines)
 
 pub tables_count : (line : ℕ) (lines : List (List (List ℕ))) → length (tables_from line lines) ≡ count_of is_table lines
 unfolding table_said
-tables_count line lines = parts_count table_said is_table (λ at fields rest. table_one (said fields) at fields rest) line lines
+tables_count line lines = parts_count table_said is_table (λ at fields rest. table_one (directive_said fields) at fields rest) line lines
 
 pub nodes_count : (tables : List Table) (line : ℕ) (lines : List (List (List ℕ))) → length (nodes_from tables line lines) ≡ count_of is_node lines
 unfolding node_said
-nodes_count tables line lines = parts_count (node_said tables) is_node (λ at fields rest. node_one tables (said fields) at fields rest) line lines
+nodes_count tables line lines = parts_count (node_said tables) is_node (λ at fields rest. node_one tables (directive_said fields) at fields rest) line lines
 
 pub pipes_count : (nodes : List Node) (line : ℕ) (lines : List (List (List ℕ))) → length (pipes_from nodes line lines) ≡ count_of is_pipe lines
 unfolding pipe_said
-pipes_count nodes line lines = parts_count (pipe_said nodes) is_pipe (λ at fields rest. pipe_one nodes (said fields) at fields rest) line lines
+pipes_count nodes line lines = parts_count (pipe_said nodes) is_pipe (λ at fields rest. pipe_one nodes (directive_said fields) at fields rest) line lines
 
 pub probes_count : (pipes : List Pipe) (nodes : List Node) (line : ℕ) (lines : List (List (List ℕ))) → length (probes_from pipes nodes line lines) ≡ count_of is_sampled lines
 unfolding probe_said
-probes_count pipes nodes line lines = parts_count (probe_said pipes nodes) is_sampled (λ at fields rest. probe_one pipes nodes (said fields) at fields rest) line lines
+probes_count pipes nodes line lines = parts_count (probe_said pipes nodes) is_sampled (λ at fields rest. probe_one pipes nodes (directive_said fields) at fields rest) line lines
 
 -- what the rules on counts say of the counts
 pub complete : (lines : List (List (List ℕ))) → IsEmpty (count_rules lines) → is_incomplete lines ≡ false
@@ -176,8 +176,8 @@ some_pipe_in lines empty = subst (λ (n : ℕ). 0 < n) (sym (pipes_count (nodes_
 
 -- a line says no such part, or one whose name it defines
 abbrev Says : {X : Type 0} → (X → Bool) → (Option Directive → Bool) → List ℕ → List (List ℕ) → Option X → Type 0
-Says p is_such name fields None = is_such (said fields) ≡ false
-Says p is_such name fields (Some x) = (is_such (said fields) ≡ true) × (nat_lt 1 (length fields) ≡ true) × (p x ≡ bytes_eq (field fields 1) name)
+Says p is_such name fields None = is_such (directive_said fields) ≡ false
+Says p is_such name fields (Some x) = (is_such (directive_said fields) ≡ true) × (nat_lt 1 (length fields) ≡ true) × (p x ≡ bytes_eq (field fields 1) name)
 
 step : {X : Type 0} (p : X → Bool) (is_such : Option Directive → Bool) (name : List ℕ) (i : ℕ) (fields : List (List ℕ)) (o : Option X) (xs : List X) (more : List (List (List ℕ))) → Says p is_such name fields o
     → ((j : ℕ) → position_from p j xs ≡ index_from is_such (names_such is_such name) j more) → position_from p i (cons_option o xs) ≡ index_from is_such (names_such is_such name) i (fields ∷ more)
@@ -191,15 +191,15 @@ place p is_such name says f i line [] h = refl
 place p is_such name says f i line (fields ∷ lines) h =
     step p is_such name i fields (says line fields) (parts_from says (line + 1) lines) lines (f line fields h.0) (λ j. place p is_such name says f j (line + 1) lines h.1)
 
-table_says : (name : List ℕ) (o : Option Directive) (line : ℕ) (fields : List (List ℕ)) → said fields ≡ o → IsNamed fields → Says (λ (t : Table). bytes_eq t.name name) is_table name fields (table_by o line fields)
+table_says : (name : List ℕ) (o : Option Directive) (line : ℕ) (fields : List (List ℕ)) → directive_said fields ≡ o → IsNamed fields → Says (λ (t : Table). bytes_eq t.name name) is_table name fields (table_by o line fields)
 table_says name (Some (OfTable kind)) line fields e h = (rw e refl, (h (rw e refl)).0, refl)
 table_says name _ line fields e h = rw e refl
 
-node_says : (tables : List Table) (name : List ℕ) (o : Option Directive) (line : ℕ) (fields : List (List ℕ)) → said fields ≡ o → IsNamed fields → Says (λ (n : Node). bytes_eq n.name name) is_node name fields (node_by tables o line fields)
+node_says : (tables : List Table) (name : List ℕ) (o : Option Directive) (line : ℕ) (fields : List (List ℕ)) → directive_said fields ≡ o → IsNamed fields → Says (λ (n : Node). bytes_eq n.name name) is_node name fields (node_by tables o line fields)
 node_says tables name (Some (OfNode node)) line fields e h = (rw e refl, (h (rw e refl)).0, refl)
 node_says tables name _ line fields e h = rw e refl
 
-pipe_says : (nodes : List Node) (name : List ℕ) (o : Option Directive) (line : ℕ) (fields : List (List ℕ)) → said fields ≡ o → IsNamed fields → Says (λ (p : Pipe). bytes_eq p.name name) is_pipe name fields (pipe_by nodes o line fields)
+pipe_says : (nodes : List Node) (name : List ℕ) (o : Option Directive) (line : ℕ) (fields : List (List ℕ)) → directive_said fields ≡ o → IsNamed fields → Says (λ (p : Pipe). bytes_eq p.name name) is_pipe name fields (pipe_by nodes o line fields)
 unfolding pipe_of
 pipe_says nodes name (Some OfPipe) line fields e h = (rw e refl, (h (rw e refl)).0, refl)
 pipe_says nodes name _ line fields e h = rw e refl
@@ -207,12 +207,12 @@ pipe_says nodes name _ line fields e h = rw e refl
 -- the indices of a tally are those of the parts that its lines say
 pub tables_placed : (t : Tally) (lines : List (List (List ℕ))) → IsTally t lines → AllByRecursion IsNamed lines → IndexTables t.tables (tables_of lines)
 unfolding table_said
-tables_placed t lines h n = λ name. h.tables name ∙ sym (place (λ (x : Table). bytes_eq x.name name.now) is_table name.now table_said (λ at fields. table_says name.now (said fields) at fields refl) 0 1 lines n)
+tables_placed t lines h n = λ name. h.tables name ∙ sym (place (λ (x : Table). bytes_eq x.name name.now) is_table name.now table_said (λ at fields. table_says name.now (directive_said fields) at fields refl) 0 1 lines n)
 
 pub nodes_placed : (t : Tally) (lines : List (List (List ℕ))) → IsTally t lines → AllByRecursion IsNamed lines → IndexNodes t.nodes (nodes_of lines)
 unfolding node_said
-nodes_placed t lines h n = λ name. h.nodes name ∙ sym (place (λ (x : Node). bytes_eq x.name name.now) is_node name.now (node_said (tables_of lines)) (λ at fields. node_says (tables_of lines) name.now (said fields) at fields refl) 0 1 lines n)
+nodes_placed t lines h n = λ name. h.nodes name ∙ sym (place (λ (x : Node). bytes_eq x.name name.now) is_node name.now (node_said (tables_of lines)) (λ at fields. node_says (tables_of lines) name.now (directive_said fields) at fields refl) 0 1 lines n)
 
 pub pipes_placed : (t : Tally) (lines : List (List (List ℕ))) → IsTally t lines → AllByRecursion IsNamed lines → IndexPipes t.pipes (pipes_of lines)
 unfolding pipe_said
-pipes_placed t lines h n = λ name. h.pipes name ∙ sym (place (λ (x : Pipe). bytes_eq x.name name.now) is_pipe name.now (pipe_said (nodes_of lines)) (λ at fields. pipe_says (nodes_of lines) name.now (said fields) at fields refl) 0 1 lines n)
+pipes_placed t lines h n = λ name. h.pipes name ∙ sym (place (λ (x : Pipe). bytes_eq x.name name.now) is_pipe name.now (pipe_said (nodes_of lines)) (λ at fields. pipe_says (nodes_of lines) name.now (directive_said fields) at fields refl) 0 1 lines n)

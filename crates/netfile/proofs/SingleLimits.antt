@@ -18,7 +18,7 @@ use Rattle.case_lines.specs.declared.quantities.Quantity.TheVariants.{TimeStep, 
 use Rattle.case_lines.specs.Words.{directive_of}
 use Rattle.case_lines.specs.Quantities.{limits, amount}
 use Rattle.case_lines.specs.Fields.{field, field_kind, heading_version, has_count, single_field}
-use Rattle.case_rules.specs.Said.{line_at, version_of, said, is_single, is_single_of}
+use Rattle.case_rules.specs.Said.{line_at, version_of, directive_said, is_single, is_single_of}
 use Rattle.case_rules.specs.Among.{line_rules}
 use Rattle.case_rules.specs.Counts.{is_incomplete, count_rules, count_of, is_pipe}
 use Rattle.case_rules.proofs.SingleWords.{word_says}
@@ -43,8 +43,8 @@ line_in lines single quantity fields q h =
     field_kept lines (OfSingle single) fields 1 quantity h (omega arith) (omega arith) q
 
 -- a line with this word says its single directive
-said_of : (word : List ℕ) (fields : List (List ℕ)) → is_single_of word fields ≡ true → said fields ≡ directive_of word
-unfolding is_single_of said
+said_of : (word : List ℕ) (fields : List (List ℕ)) → is_single_of word fields ≡ true → directive_said fields ≡ directive_of word
+unfolding is_single_of directive_said
 said_of word fields h = ap directive_of ((bytes_eq-Decides (field fields 0) word).0 (and_parts (is_single fields) (bytes_eq (field fields 0) word) h).1)
 
 -- a line that is found is one of those that are kept, and passes the test

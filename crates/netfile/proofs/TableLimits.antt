@@ -19,7 +19,7 @@ use Rattle.case_lines.specs.declared.fields.FieldKind.TheVariants.{Number}
 use Rattle.case_lines.specs.Quantities.{limits, amount}
 use Rattle.case_lines.specs.Fields.{field, field_kind, has_count, has_too_many, first_quantity, second_quantity}
 use Rattle.case_lines.specs.Tables.{pair_count, pair_at, pairs_of, rises, falls, may_follow, may_begin, follow, is_ordered, is_disordered}
-use Rattle.case_rules.specs.Said.{line_at, said, named_by, table_part, same_part, has_part, is_some_part, is_definition, defines, defines_part}
+use Rattle.case_rules.specs.Said.{line_at, directive_said, named_by, table_part, same_part, has_part, is_some_part, is_definition, defines, defines_part}
 use Rattle.case_rules.specs.Among.{line_rules}
 use Rattle.netfile.specs.Built.{table_by, table_said, tables_from, tables_of, table_index}
 use Rattle.netfile.proofs.FieldLimits.{IsKept, kept_at, field_kept, size_within, two_fields, name_once}
@@ -64,7 +64,7 @@ no_table _ = (refl, refl, refl, refl)
 pub defines_by : Part → List ℕ → List (List ℕ) → Option Directive → Bool
 defines_by part name fields o = has_part part (named_by o) && nat_lt 1 (length fields) && bytes_eq (field fields 1) name
 
-pub defined_by : (part : Part) (name : List ℕ) (fields : List (List ℕ)) → defines_part part name fields ≡ defines_by part name fields (said fields)
+pub defined_by : (part : Part) (name : List ℕ) (fields : List (List ℕ)) → defines_part part name fields ≡ defines_by part name fields (directive_said fields)
 unfolding defines_part defines_by
 defined_by part name fields = refl
 
@@ -103,10 +103,10 @@ some_such part (Some own) h = refl
 pub defines_of : (part : Part) (name : List ℕ) (fields : List (List ℕ)) → defines_part part name fields ≡ true → defines name fields ≡ true
 unfolding defines is_definition defines_part
 defines_of part name fields h =
-    let n = (and_parts (has_part part (named_by (said fields)) && nat_lt 1 (length fields)) (bytes_eq (field fields 1) name) h).0 in
-    and_from (is_some_part (named_by (said fields)) && nat_lt 1 (length fields)) (bytes_eq (field fields 1) name)
-    (and_from (is_some_part (named_by (said fields))) (nat_lt 1 (length fields)) (some_such part (named_by (said fields)) (and_parts (has_part part (named_by (said fields))) (nat_lt 1 (length fields)) n).0) (and_parts (has_part part (named_by (said fields))) (nat_lt 1 (length fields)) n).1)
-    (and_parts (has_part part (named_by (said fields)) && nat_lt 1 (length fields)) (bytes_eq (field fields 1) name) h).1
+    let n = (and_parts (has_part part (named_by (directive_said fields)) && nat_lt 1 (length fields)) (bytes_eq (field fields 1) name) h).0 in
+    and_from (is_some_part (named_by (directive_said fields)) && nat_lt 1 (length fields)) (bytes_eq (field fields 1) name)
+    (and_from (is_some_part (named_by (directive_said fields))) (nat_lt 1 (length fields)) (some_such part (named_by (directive_said fields)) (and_parts (has_part part (named_by (directive_said fields))) (nat_lt 1 (length fields)) n).0) (and_parts (has_part part (named_by (directive_said fields))) (nat_lt 1 (length fields)) n).1)
+    (and_parts (has_part part (named_by (directive_said fields)) && nat_lt 1 (length fields)) (bytes_eq (field fields 1) name) h).1
 
 pub some_directive : (o : Option Directive) → is_some_part (named_by o) ≡ true → (d : Directive) × (o ≡ Some d)
 some_directive None h = absurd (grind arith)
@@ -120,9 +120,9 @@ pub name_of : (name : List ℕ) (fields : List (List ℕ)) → defines name fiel
 unfolding defines
 name_of name fields h = (bytes_eq-Decides (field fields 1) name).0 (and_parts (is_definition fields) (bytes_eq (field fields 1) name) h).1
 
-pub directive_of_definition : (fields : List (List ℕ)) → is_definition fields ≡ true → (d : Directive) × (said fields ≡ Some d)
+pub directive_of_definition : (fields : List (List ℕ)) → is_definition fields ≡ true → (d : Directive) × (directive_said fields ≡ Some d)
 unfolding is_definition
-directive_of_definition fields h = some_directive (said fields) (and_parts (is_some_part (named_by (said fields))) (nat_lt 1 (length fields)) h).0
+directive_of_definition fields h = some_directive (directive_said fields) (and_parts (is_some_part (named_by (directive_said fields))) (nat_lt 1 (length fields)) h).0
 
 pub name_free : (lines : List (List (List ℕ))) → IsEmpty (line_rules lines) → (name : List ℕ) (k : ℕ) → k < length lines → defines name (line_at lines k) ≡ true → list_any (defines name) (take k lines) ≡ false
 name_free lines empty name k h d =
@@ -147,18 +147,18 @@ defines_own name own fields n b =
     and_from ((same_part (table_part own) (table_part own)) && nat_lt 1 (length fields)) (bytes_eq (field fields 1) name)
     (and_from (same_part (table_part own) (table_part own)) (nat_lt 1 (length fields)) (true_same the_type (table_part own) (table_part own) refl) n) b
 
-table_defines : (name : List ℕ) (own : TableKind) (fields : List (List ℕ)) → said fields ≡ Some (OfTable own) → nat_lt 1 (length fields) ≡ true → bytes_eq (field fields 1) name ≡ true → defines_part (table_part own) name fields ≡ true
+table_defines : (name : List ℕ) (own : TableKind) (fields : List (List ℕ)) → directive_said fields ≡ Some (OfTable own) → nat_lt 1 (length fields) ≡ true → bytes_eq (field fields 1) name ≡ true → defines_part (table_part own) name fields ≡ true
 table_defines name own fields s n b =
     defined_by (table_part own) name fields ∙ ap (defines_by (table_part own) name fields) s ∙ defines_own name own fields n b
 
-own_kind : (name : List ℕ) (kind own : TableKind) (fields : List (List ℕ)) → said fields ≡ Some (OfTable own) → defines_part (table_part kind) name fields ≡ true → own ≡ kind
+own_kind : (name : List ℕ) (kind own : TableKind) (fields : List (List ℕ)) → directive_said fields ≡ Some (OfTable own) → defines_part (table_part kind) name fields ≡ true → own ≡ kind
 own_kind name kind own fields s d =
     let e : defines_by (table_part kind) name fields (Some (OfTable own)) ≡ true =
     sym (defined_by (table_part kind) name fields ∙ ap (defines_by (table_part kind) name fields) s) ∙ d in
     same_kind own kind (has_part_of (table_part kind) name fields (Some (OfTable own)) e)
 
 -- the one line that defines a name tells the kind of its table
-kind_at : (lines : List (List (List ℕ))) → IsEmpty (line_rules lines) → (name : List ℕ) (kind : TableKind) (j k : ℕ) → IsFound (defines_part (table_part kind) name) lines j → k < length lines → (own : TableKind) → said (line_at lines k) ≡ Some (OfTable own)
+kind_at : (lines : List (List (List ℕ))) → IsEmpty (line_rules lines) → (name : List ℕ) (kind : TableKind) (j k : ℕ) → IsFound (defines_part (table_part kind) name) lines j → k < length lines → (own : TableKind) → directive_said (line_at lines k) ≡ Some (OfTable own)
     → bytes_eq (field (line_at lines k) 1) name ≡ true → own ≡ kind
 kind_at lines empty name kind j k f h own s b =
     let n = two_fields own (length (line_at lines k)) (kept_at lines k h empty (OfTable own) s).counted in
@@ -170,14 +170,14 @@ kinds : (lines : List (List (List ℕ))) → IsEmpty (line_rules lines) → (nam
 unfolding table_said
 kinds lines empty name kind j f = All-from_recursion (λ (t : Table). is_table_named name t ≡ true → t.kind ≡ kind) (tables_of lines)
     (all_parts (λ (t : Table). is_table_named name t ≡ true → t.kind ≡ kind) table_said 1 lines
-    (λ k at h. by_table (λ (t : Table). is_table_named name t ≡ true → t.kind ≡ kind) (said (line_at lines k)) at (line_at lines k) (λ own s b. kind_at lines empty name kind j k f h own s b)))
+    (λ k at h. by_table (λ (t : Table). is_table_named name t ≡ true → t.kind ≡ kind) (directive_said (line_at lines k)) at (line_at lines k) (λ own s b. kind_at lines empty name kind j k f h own s b)))
 
 -- the index of a name that a line defines for a table of a kind is that of a table of this kind
 pub table_found : (lines : List (List (List ℕ))) → IsEmpty (line_rules lines) → (name : List ℕ) (kind : TableKind) → list_any (defines_part (table_part kind) name) lines ≡ true → IsTableOf kind (tables_of lines) (table_index (tables_of lines) name)
 unfolding table_index table_said
 table_found lines empty name kind h =
     let f = found (is_table_named name) (tables_of lines) (listed (is_table_named name) (defines_part (table_part kind) name) table_said 1 lines
-    (λ at fields more e. table_here name kind (said fields) at fields more (sym (defined_by (table_part kind) name fields) ∙ e)) h) in
+    (λ at fields more e. table_here name kind (directive_said fields) at fields more (sym (defined_by (table_part kind) name fields) ∙ e)) h) in
     let all = kinds lines empty name kind (unwrap_or (position_from (defines_part (table_part kind) name) 0 lines) 0) (found (defines_part (table_part kind) name) lines h) in record {
       there = f.there;
       wanted = λ d. all (unwrap_or (position_from (is_table_named name) 0 (tables_of lines)) 0) d f.there (f.passes d);
@@ -312,4 +312,4 @@ table_in lines kind line fields h =
 pub tables_in : (lines : List (List (List ℕ))) → IsEmpty (line_rules lines) → All IsTable (tables_of lines)
 unfolding table_said
 tables_in lines empty = All-from_recursion IsTable (tables_of lines) (all_parts IsTable table_said 1 lines
-    (λ k at h. by_table IsTable (said (line_at lines k)) at (line_at lines k) (λ kind s. table_in lines kind at (line_at lines k) (kept_at lines k h empty (OfTable kind) s))))
+    (λ k at h. by_table IsTable (directive_said (line_at lines k)) at (line_at lines k) (λ kind s. table_in lines kind at (line_at lines k) (kept_at lines k h empty (OfTable kind) s))))

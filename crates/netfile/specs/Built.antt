@@ -39,7 +39,7 @@ use Rattle.case_lines.specs.Quantities.{amount}
 use Rattle.case_lines.specs.Fields.{field, is_marked, referred}
 use Rattle.case_lines.specs.Words.{friction_of}
 use Rattle.case_lines.specs.Tables.{pairs_of}
-use Rattle.case_rules.specs.Said.{version_of, said, is_single_of}
+use Rattle.case_rules.specs.Said.{version_of, directive_said, is_single_of}
 
 -- what the line of a single directive gives, or the default where there is no such line
 abbrev pub given : Quantity → ℤ → Option (List (List ℕ)) → ℤ
@@ -78,7 +78,7 @@ table_by (Some (OfTable kind)) line fields =
 table_by _ line fields = None
 
 unfoldable pub table_said : ℕ → List (List ℕ) → Option Table
-table_said line fields = table_by (said fields) line fields
+table_said line fields = table_by (directive_said fields) line fields
 
 -- the parts that these lines say in file order, of which the first has the number `line`
 abbrev pub parts_from : {X : Type 0} → (ℕ → List (List ℕ) → Option X) → ℕ → List (List (List ℕ))
@@ -128,7 +128,7 @@ node_by tables (Some (OfNode node)) line fields =
 node_by tables _ line fields = None
 
 unfoldable pub node_said : List Table → ℕ → List (List ℕ) → Option Node
-node_said tables line fields = node_by tables (said fields) line fields
+node_said tables line fields = node_by tables (directive_said fields) line fields
 
 abbrev pub nodes_from : List Table → ℕ → List (List (List ℕ)) → List Node
 nodes_from tables line lines = parts_from (node_said tables) line lines
@@ -153,7 +153,7 @@ pipe_by nodes (Some OfPipe) line fields = Some (pipe_of nodes line fields)
 pipe_by nodes _ line fields = None
 
 unfoldable pub pipe_said : List Node → ℕ → List (List ℕ) → Option Pipe
-pipe_said nodes line fields = pipe_by nodes (said fields) line fields
+pipe_said nodes line fields = pipe_by nodes (directive_said fields) line fields
 
 abbrev pub pipes_from : List Node → ℕ → List (List (List ℕ)) → List Pipe
 pipes_from nodes line lines = parts_from (pipe_said nodes) line lines
@@ -172,7 +172,7 @@ probe_by pipes nodes (Some OfWatch) line fields =
 probe_by pipes nodes _ line fields = None
 
 unfoldable pub probe_said : List Pipe → List Node → ℕ → List (List ℕ) → Option Probe
-probe_said pipes nodes line fields = probe_by pipes nodes (said fields) line fields
+probe_said pipes nodes line fields = probe_by pipes nodes (directive_said fields) line fields
 
 abbrev pub probes_from : List Pipe → List Node → ℕ → List (List (List ℕ)) → List Probe
 probes_from pipes nodes line lines = parts_from (probe_said pipes nodes) line lines

@@ -5,13 +5,13 @@ use Rattle.case_lines.specs.declared.words.Directive.TheVariants.{OfProbe}
 use Rattle.case_lines.specs.declared.quantities.Quantity.TheVariants.{PipePlace}
 use Rattle.case_lines.specs.Quantities.{amount}
 use Rattle.case_lines.specs.Fields.{field}
-use Rattle.case_rules.specs.Said.{said, named_by, is_some_part}
+use Rattle.case_rules.specs.Said.{directive_said, named_by, is_some_part}
 
 abbrev pub IsNamed : List (List ℕ) → Type 0
 IsNamed fields =
-    is_some_part (named_by (said fields)) ≡ true
+    is_some_part (named_by (directive_said fields)) ≡ true
     → (nat_lt 1 (length fields) ≡ true) × (length (field fields 1) ≤ 32)
 
 abbrev pub IsPlaced : List (List ℕ) → Type 0
 IsPlaced fields =
-    said fields ≡ Some OfProbe → unsigned_abs (amount PipePlace (field fields 2)) ≤ 65_536
+    directive_said fields ≡ Some OfProbe → unsigned_abs (amount PipePlace (field fields 2)) ≤ 65_536

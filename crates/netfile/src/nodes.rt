@@ -9,7 +9,7 @@ ghost use Rattle.netfile.specs.Built.{node_by, node_said as node_of_line};
 use crate::indices::part_index;
 use case_lines::{Directive, Line, NodeWord, Quantity, amount, is_marked, referred};
 use case_model::{Name, Node, NodeKind, Value};
-use case_rules::said;
+use case_rules::directive_said;
 use std::collections::HashMap;
 
 /// The node that a line says, if any, by its number in the text.
@@ -19,7 +19,7 @@ pub(crate) fn node_said(indices: &HashMap<&[u8], u32>, number: u32, line: &Line)
     ensures { (tables : Items Table) → IndexTables indices.now tables →
         result ≡ node_of_line tables number line.now }
 {
-    match said(line) {
+    match directive_said(line) {
         Some(Directive::OfNode(word)) => Some(Node {
             name: Name::of(line.field(1)),
             line: number,

@@ -10,7 +10,7 @@ ghost use Rattle.netfile.specs.Built.{pipe_said as pipe_of_line};
 use crate::indices::part_index;
 use case_lines::{Directive, Line, Quantity, amount};
 use case_model::{Name, Pipe};
-use case_rules::said;
+use case_rules::directive_said;
 use std::collections::HashMap;
 
 /// The pipe that a line says, if any, by its number in the text.
@@ -20,7 +20,7 @@ pub(crate) fn pipe_said(indices: &HashMap<&[u8], u32>, number: u32, line: &Line)
     ensures { (nodes : Items Node) → IndexNodes indices.now nodes →
         result ≡ pipe_of_line nodes number line.now }
 {
-    match said(line) {
+    match directive_said(line) {
         Some(Directive::OfPipe) => Some(pipe_of(indices, number, line)),
         _ => None,
     }

@@ -9,7 +9,7 @@ ghost use Rattle.netfile.specs.Built.{probe_by, probe_said as probe_of_line};
 use crate::indices::part_index;
 use case_lines::{Directive, Line, Quantity, amount};
 use case_model::{Probe, ProbeAt};
-use case_rules::said;
+use case_rules::directive_said;
 use std::collections::HashMap;
 
 /// The probe or watch that a line says, if any, by its number in the text.
@@ -24,7 +24,7 @@ pub(crate) fn probe_said(
     ensures { (ps : Items Pipe) (ns : Items Node) → IndexPipes pipes.now ps →
         IndexNodes nodes.now ns → result ≡ probe_of_line ps ns number line.now }
 {
-    match said(line) {
+    match directive_said(line) {
         Some(Directive::OfProbe) => Some(Probe {
             line: number,
             at: ProbeAt::OnPipe {

@@ -7,7 +7,7 @@ ghost use Rattle.netfile.specs.Built.{table_by, table_said as table_of_line};
 
 use case_lines::{Directive, Line, pair_at};
 use case_model::{List, Name, Table, TableKind};
-use case_rules::said;
+use case_rules::directive_said;
 use std::alloc::{AllocError, Global};
 
 /// Adds what was found, if anything.
@@ -30,7 +30,7 @@ pub(crate) fn table_said(
     requires { IsNamed line.now }
     ensures { IfOk result (λ t. t ≡ table_of_line number line.now) }
 {
-    match said(line) {
+    match directive_said(line) {
         Some(Directive::OfTable(kind)) => Ok(Some(Table {
             name: Name::of(line.field(1)),
             line: number,

@@ -3,7 +3,7 @@ mod Counting
 mod Cutting
 mod Depending
 mod Ended
-mod Joining
+pub mod Joining
 mod Listing
 mod Needing
 mod Owning

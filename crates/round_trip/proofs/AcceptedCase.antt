@@ -41,13 +41,13 @@ no_refusal r v h = cc
 -- a verdict that accepts: no pass refuses, the case is that of the lines, and the mesh is its own
 record AcceptsAll (lines : List (List (List ℕ))) (v : Case × Mesh) : Type 0 where
   empty : AreEmpty (all_passes lines)
-  said : case_of lines ≡ v.0
+  directive_said : case_of lines ≡ v.0
   divided : mesh_of (case_of lines) ≡ v.1
 
 accepts : (lines : List (List (List ℕ))) (long : Bool) (o : Option Refusal) (v : Case × Mesh) → FirstOrNone (all_passes lines) o → cond long (Err too_long) (judged (case_of lines) o) ≡ Ok v → AcceptsAll lines v
 accepts lines true o v f h = absurd (no_refusal too_long v h)
 accepts lines false (Some r) v f h = absurd (no_refusal r v h)
-accepts lines false None v f h = record { empty = f; said = ap (λ (r : Result (Case × Mesh) Refusal). (value_or v r).0) h; divided = ap (λ (r : Result (Case × Mesh) Refusal). (value_or v r).1) h }
+accepts lines false None v f h = record { empty = f; directive_said = ap (λ (r : Result (Case × Mesh) Refusal). (value_or v r).0) h; divided = ap (λ (r : Result (Case × Mesh) Refusal). (value_or v r).1) h }
 
 accepts_text : (bytes : List ℕ) (v : Case × Mesh) → verdict bytes ≡ Ok v → AcceptsAll (lines_of bytes) v
 unfolding verdict
@@ -57,12 +57,12 @@ accepts_text bytes v h = accepts (lines_of bytes) (nat_lt 8_388_608 (length byte
 pub accepted_writable : (bytes : List ℕ) (case : Case) (mesh : Mesh) → verdict bytes ≡ Ok (case, mesh) → IsWritable case
 accepted_writable bytes case mesh h =
     let a = accepts_text bytes (case, mesh) h in
-    subst IsWritable a.said (lines_writable (lines_of bytes) a.empty.0 a.empty.1.0 a.empty.1.1)
+    subst IsWritable a.directive_said (lines_writable (lines_of bytes) a.empty.0 a.empty.1.0 a.empty.1.1)
 
 pub accepted_mesh : (bytes : List ℕ) (case : Case) (mesh : Mesh) → verdict bytes ≡ Ok (case, mesh) → mesh_of case ≡ mesh
 accepted_mesh bytes case mesh h =
     let a = accepts_text bytes (case, mesh) h in
-    sym (ap mesh_of a.said) ∙ a.divided
+    sym (ap mesh_of a.directive_said) ∙ a.divided
 
 -- its written text means that case again, with its parts on the lines of that text, and the same mesh
 pub accepted_reads_back : (bytes : List ℕ) (case : Case) (mesh : Mesh) → verdict bytes ≡ Ok (case, mesh) → length (case_text case) ≤ 8_388_608 → verdict (case_text case) ≡ Ok (renumbered case, mesh)

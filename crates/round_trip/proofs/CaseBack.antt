@@ -18,7 +18,7 @@ use Rattle.case_lines.specs.declared.words.Directive.{Directive}
 use Rattle.case_lines.specs.declared.quantities.Quantity.TheVariants.{TimeStep, StepCount, VapourHead, GrowthWeight, SpeedTolerance, SampleStep}
 use Rattle.case_lines.specs.Words.{single_of, table_of, node_of, directive_of, friction_of}
 use Rattle.case_lines.specs.Fields.{heading_version}
-use Rattle.case_rules.specs.Said.{version_of, said, is_single, is_single_of}
+use Rattle.case_rules.specs.Said.{version_of, directive_said, is_single, is_single_of}
 use Rattle.case_writing.specs.CaseText.{version_word, friction_word, name_of_table, name_of_node, name_of_pipe}
 use Rattle.netfile.specs.Built.{friction_by, friction_from, single_amount, table_index, node_index, pipe_index, table_by, table_said, tables_of, node_by, node_said, nodes_of, pipe_by, pipe_said, pipes_of, probe_by, probe_said, probes_of, case_of, parts_from}
 use Rattle.round_trip.specs.Lines.{settings_lines, part_lines, table_line, node_line, pipe_line, probe_line, case_lines}
@@ -119,42 +119,42 @@ pipe_no_probe pipes nodes written_nodes line p = ap (λ (o : Option Directive). 
 -- the heading and the settings say no part
 friction_tables : (b : Bool) (f : Friction) (rest : List (List (List ℕ)))
     → parts_from table_said 8 (cond b [] ((codes "friction" ∷ friction_word f ∷ []) ∷ []) ++ rest) ≡ parts_from table_said (cond b 8 9) rest
-unfolding table_said said directive_of single_of table_of node_of
+unfolding table_said directive_said directive_of single_of table_of node_of
 friction_tables true f rest = refl
 friction_tables false f rest = refl
 
 settings_tables : (case : Case) (rest : List (List (List ℕ))) → parts_from table_said 1 (settings_lines case ++ rest) ≡ parts_from table_said (first_part case.version) rest
-unfolding settings_lines table_said said directive_of single_of table_of node_of
+unfolding settings_lines table_said directive_said directive_of single_of table_of node_of
 settings_tables case rest = friction_tables (case.version == 1) case.friction rest
 
 friction_nodes : (tables : List Table) (b : Bool) (f : Friction) (rest : List (List (List ℕ)))
     → parts_from (node_said tables) 8 (cond b [] ((codes "friction" ∷ friction_word f ∷ []) ∷ []) ++ rest) ≡ parts_from (node_said tables) (cond b 8 9) rest
-unfolding node_said said directive_of single_of table_of node_of
+unfolding node_said directive_said directive_of single_of table_of node_of
 friction_nodes tables true f rest = refl
 friction_nodes tables false f rest = refl
 
 settings_nodes : (tables : List Table) (case : Case) (rest : List (List (List ℕ))) → parts_from (node_said tables) 1 (settings_lines case ++ rest) ≡ parts_from (node_said tables) (first_part case.version) rest
-unfolding settings_lines node_said said directive_of single_of table_of node_of
+unfolding settings_lines node_said directive_said directive_of single_of table_of node_of
 settings_nodes tables case rest = friction_nodes tables (case.version == 1) case.friction rest
 
 friction_pipes : (nodes : List Node) (b : Bool) (f : Friction) (rest : List (List (List ℕ)))
     → parts_from (pipe_said nodes) 8 (cond b [] ((codes "friction" ∷ friction_word f ∷ []) ∷ []) ++ rest) ≡ parts_from (pipe_said nodes) (cond b 8 9) rest
-unfolding pipe_said said directive_of single_of table_of node_of
+unfolding pipe_said directive_said directive_of single_of table_of node_of
 friction_pipes nodes true f rest = refl
 friction_pipes nodes false f rest = refl
 
 settings_pipes : (nodes : List Node) (case : Case) (rest : List (List (List ℕ))) → parts_from (pipe_said nodes) 1 (settings_lines case ++ rest) ≡ parts_from (pipe_said nodes) (first_part case.version) rest
-unfolding settings_lines pipe_said said directive_of single_of table_of node_of
+unfolding settings_lines pipe_said directive_said directive_of single_of table_of node_of
 settings_pipes nodes case rest = friction_pipes nodes (case.version == 1) case.friction rest
 
 friction_probes : (pipes : List Pipe) (nodes : List Node) (b : Bool) (f : Friction) (rest : List (List (List ℕ)))
     → parts_from (probe_said pipes nodes) 8 (cond b [] ((codes "friction" ∷ friction_word f ∷ []) ∷ []) ++ rest) ≡ parts_from (probe_said pipes nodes) (cond b 8 9) rest
-unfolding probe_said said directive_of single_of table_of node_of
+unfolding probe_said directive_said directive_of single_of table_of node_of
 friction_probes pipes nodes true f rest = refl
 friction_probes pipes nodes false f rest = refl
 
 settings_probes : (pipes : List Pipe) (nodes : List Node) (case : Case) (rest : List (List (List ℕ))) → parts_from (probe_said pipes nodes) 1 (settings_lines case ++ rest) ≡ parts_from (probe_said pipes nodes) (first_part case.version) rest
-unfolding settings_lines probe_said said directive_of single_of table_of node_of
+unfolding settings_lines probe_said directive_said directive_of single_of table_of node_of
 settings_probes pipes nodes case rest = friction_probes pipes nodes (case.version == 1) case.friction rest
 
 -- the parts of the lines
@@ -260,27 +260,27 @@ count_back : (n : ℕ) → n ≤ 100_000_000 → IsSmall (pos n)
 count_back n h = omega arith
 
 dt_back : (case : Case) → IsRead case → single_amount (codes "step") TimeStep (pos 0) (case_lines case) ≡ case.dt
-unfolding single_amount case_lines settings_lines is_single_of is_single said directive_of single_of table_of node_of
+unfolding single_amount case_lines settings_lines is_single_of is_single directive_said directive_of single_of table_of node_of
 dt_back case h = amount_back TimeStep case.dt (small_above 1 1_000_000 (10 ^ 18) case.dt h.dt (omega arith))
 
 steps_back : (case : Case) → IsRead case → unsigned_abs (single_amount (codes "steps") StepCount (pos 0) (case_lines case)) ≡ case.steps
-unfolding single_amount case_lines settings_lines is_single_of is_single said directive_of single_of table_of node_of
+unfolding single_amount case_lines settings_lines is_single_of is_single directive_said directive_of single_of table_of node_of
 steps_back case h = ap unsigned_abs (amount_back StepCount (pos case.steps) (count_back case.steps h.few_steps))
 
 vapour_back : (case : Case) → IsRead case → single_amount (codes "vapour") VapourHead (neg_ℤ (pos 10_100_000)) (case_lines case) ≡ case.vapour
-unfolding single_amount case_lines settings_lines is_single_of is_single said directive_of single_of table_of node_of
+unfolding single_amount case_lines settings_lines is_single_of is_single directive_said directive_of single_of table_of node_of
 vapour_back case h = amount_back VapourHead case.vapour (small_between 100_000_000 0 (10 ^ 18) case.vapour h.vapour (omega arith) (omega arith))
 
 weight_back : (case : Case) → IsRead case → single_amount (codes "weight") GrowthWeight (pos 10) (case_lines case) ≡ case.weight
-unfolding single_amount case_lines settings_lines is_single_of is_single said directive_of single_of table_of node_of
+unfolding single_amount case_lines settings_lines is_single_of is_single directive_said directive_of single_of table_of node_of
 weight_back case h = amount_back GrowthWeight case.weight (small_above 5 10 (10 ^ 18) case.weight h.weight (omega arith))
 
 tolerance_back : (case : Case) → IsRead case → single_amount (codes "tolerance") SpeedTolerance (pos 150) (case_lines case) ≡ case.tolerance
-unfolding single_amount case_lines settings_lines is_single_of is_single said directive_of single_of table_of node_of
+unfolding single_amount case_lines settings_lines is_single_of is_single directive_said directive_of single_of table_of node_of
 tolerance_back case h = amount_back SpeedTolerance case.tolerance (small_above 0 500 (10 ^ 18) case.tolerance h.tolerance (omega arith))
 
 every_back : (case : Case) → IsRead case → unsigned_abs (single_amount (codes "every") SampleStep (pos 1) (case_lines case)) ≡ case.every
-unfolding single_amount case_lines settings_lines is_single_of is_single said directive_of single_of table_of node_of
+unfolding single_amount case_lines settings_lines is_single_of is_single directive_said directive_of single_of table_of node_of
 every_back case h = ap unsigned_abs (amount_back SampleStep (pos case.every) (count_back case.every h.few_every))
 
 -- the version and how friction is taken
@@ -300,12 +300,12 @@ friction_found Linear = refl
 
 friction_given : (b : Bool) (f : Friction) (rest : List (List (List ℕ))) → (b ≡ true → f ≡ Explicit)
     → cond b Explicit (friction_by (find (is_single_of (codes "friction")) (cond b [] ((codes "friction" ∷ friction_word f ∷ []) ∷ []) ++ rest))) ≡ f
-unfolding is_single_of is_single said directive_of single_of table_of node_of
+unfolding is_single_of is_single directive_said directive_of single_of table_of node_of
 friction_given true f rest h = sym (h refl)
 friction_given false f rest h = friction_found f
 
 friction_back : (case : Case) → IsRead case → friction_from case.version (case_lines case) ≡ case.friction
-unfolding friction_from case_lines settings_lines is_single_of is_single said directive_of single_of table_of node_of
+unfolding friction_from case_lines settings_lines is_single_of is_single directive_said directive_of single_of table_of node_of
 friction_back case h =
     friction_given (case.version == 1) case.friction (part_lines case) (λ e. h.friction (eqb-true case.version 1 e))
 

@@ -7,7 +7,7 @@ use Rattle.case_model.specs.declared.cases.Table.{Table}
 use Rattle.case_model.specs.Limits.{IsRead}
 use Rattle.case_model.specs.Sets.{IsEmpty}
 use Rattle.case_lines.specs.Words.{single_of, table_of, node_of, directive_of}
-use Rattle.case_rules.specs.Said.{said, is_single, is_single_of}
+use Rattle.case_rules.specs.Said.{directive_said, is_single, is_single_of}
 use Rattle.case_rules.specs.Counts.{is_table, is_node, is_pipe, is_sampled, count_of, is_incomplete, is_too_large, count_rules}
 use Rattle.netfile.specs.Built.{tables_of, nodes_of, pipes_of}
 use Rattle.netfile.proofs.PartsSaid.{tables_count, nodes_count, pipes_count, probes_count}
@@ -38,11 +38,11 @@ count_probes case h a =
 
 -- the two directives that a case needs
 has_step : (case : Case) → list_any (is_single_of (codes "step")) (case_lines case) ≡ true
-unfolding case_lines settings_lines is_single_of is_single said directive_of single_of table_of node_of
+unfolding case_lines settings_lines is_single_of is_single directive_said directive_of single_of table_of node_of
 has_step case = refl
 
 has_steps : (case : Case) → list_any (is_single_of (codes "steps")) (case_lines case) ≡ true
-unfolding case_lines settings_lines is_single_of is_single said directive_of single_of table_of node_of
+unfolding case_lines settings_lines is_single_of is_single directive_said directive_of single_of table_of node_of
 has_steps case = refl
 
 complete : (case : Case) → IsWritable case → is_incomplete (case_lines case) ≡ false

@@ -15,7 +15,7 @@ use Rattle.case_lines.specs.declared.words.NodeWord.TheVariants.{Reservoir, Junc
 use Rattle.case_lines.specs.declared.words.Directive.{Directive}
 use Rattle.case_lines.specs.declared.words.Directive.TheVariants.{OfTable, OfNode, OfPipe, OfProbe, OfWatch}
 use Rattle.case_lines.specs.Words.{single_of, table_of, node_of, directive_of}
-use Rattle.case_rules.specs.Said.{said}
+use Rattle.case_rules.specs.Said.{directive_said}
 use Rattle.case_writing.specs.CaseText.{table_word, node_word, spot_fields}
 use Rattle.round_trip.specs.Lines.{table_line, node_line, pipe_line, probe_line}
 
@@ -53,23 +53,23 @@ node_directive (PumpKind curve speed start start2) = refl
 node_directive (TankKind area start) = refl
 node_directive (VesselKind gas volume) = refl
 
-pub of_table : (t : Table) → said (table_line t) ≡ Some (OfTable t.kind)
-unfolding said table_line
+pub of_table : (t : Table) → directive_said (table_line t) ≡ Some (OfTable t.kind)
+unfolding directive_said table_line
 of_table t = table_directive t.kind
 
-pub of_node : (tables : List Table) (n : Node) → said (node_line tables n) ≡ Some (OfNode (kind_word n.kind))
-unfolding said node_line
+pub of_node : (tables : List Table) (n : Node) → directive_said (node_line tables n) ≡ Some (OfNode (kind_word n.kind))
+unfolding directive_said node_line
 of_node tables n = node_directive n.kind
 
-pub of_pipe : (nodes : List Node) (p : Pipe) → said (pipe_line nodes p) ≡ Some OfPipe
-unfolding said pipe_line directive_of single_of table_of node_of
+pub of_pipe : (nodes : List Node) (p : Pipe) → directive_said (pipe_line nodes p) ≡ Some OfPipe
+unfolding directive_said pipe_line directive_of single_of table_of node_of
 of_pipe nodes p = refl
 
-of_spot : (pipes : List Pipe) (nodes : List Node) (at : ProbeAt) → said (spot_fields pipes nodes at) ≡ Some (spot_directive at)
-unfolding said directive_of single_of table_of node_of
+of_spot : (pipes : List Pipe) (nodes : List Node) (at : ProbeAt) → directive_said (spot_fields pipes nodes at) ≡ Some (spot_directive at)
+unfolding directive_said directive_of single_of table_of node_of
 of_spot pipes nodes (OnPipe pipe place) = refl
 of_spot pipes nodes (OnNode node) = refl
 
-pub of_probe : (pipes : List Pipe) (nodes : List Node) (q : Probe) → said (probe_line pipes nodes q) ≡ Some (spot_directive q.at)
+pub of_probe : (pipes : List Pipe) (nodes : List Node) (q : Probe) → directive_said (probe_line pipes nodes q) ≡ Some (spot_directive q.at)
 unfolding probe_line
 of_probe pipes nodes q = of_spot pipes nodes q.at

@@ -26,7 +26,7 @@ use Rattle.case_lines.specs.declared.fields.FieldKind.TheVariants.{NewName, Node
 use Rattle.case_lines.specs.Fields.{field, first_quantity, second_quantity, node_fields, pipe_fields, probe_fields, field_kind, has_count, has_too_many}
 use Rattle.case_lines.specs.Words.{has_directive}
 use Rattle.case_lines.specs.Tables.{rises, falls, may_follow, may_begin, follow, is_ordered, is_disordered}
-use Rattle.case_rules.specs.Said.{version_of, said}
+use Rattle.case_rules.specs.Said.{version_of, directive_said}
 use Rattle.surge_io.specs.Fields.{count_text}
 use Rattle.case_writing.specs.CaseText.{name_of_node, name_of_pipe, first_places, second_places, entry_fields, kind_fields, pipe_names, pipe_numbers, spot_fields}
 use Rattle.round_trip.specs.Lines.{table_line, node_line, pipe_line, probe_line}
@@ -39,7 +39,7 @@ use Rattle.fixed_num.proofs.Orders.{at_most_at, less_at}
 
 -- a line that breaks no rule by itself, and whose fields name what is there
 pub record IsFitLine (all : List (List (List ℕ))) (d : Directive) (fields : List (List ℕ)) : Type 0 where
-  pub said : said fields ≡ Some d
+  pub directive_said : directive_said fields ≡ Some d
   pub allowed : has_directive (version_of all) d ≡ true
   pub some : 0 < length fields
   pub count : has_count d (length fields) ≡ true
@@ -143,7 +143,7 @@ unfolding node_line has_count has_too_many is_disordered
 node_line_fit all case n a h name =
     let f = kind_fit all case n.kind a h.kind in
     let c = fit_count all (node_fields (kind_word n.kind)) (kind_fields case.tables n.kind) f in record {
-      said = of_node case.tables n;
+      directive_said = of_node case.tables n;
       allowed = refl;
       some = omega arith;
       count = eq-eqb (length (node_line case.tables n)) (length (node_fields (kind_word n.kind)) + 3) (omega arith);
@@ -182,7 +182,7 @@ pipe_fields_fit all case p a h j name = (
 pub pipe_line_fit : (all : List (List (List ℕ))) (case : Case) (p : Pipe) → AreKnown all case → IsPipe p → IsJoined (length case.nodes) p → IsNameText p.name → IsFitLine all OfPipe (pipe_line case.nodes p)
 unfolding pipe_line has_count has_too_many is_disordered field_kind
 pipe_line_fit all case p a h j name = record {
-  said = of_pipe case.nodes p;
+  directive_said = of_pipe case.nodes p;
   allowed = refl;
   some = omega arith;
   count = refl;
@@ -205,11 +205,11 @@ watch_fit all word name f zero a l = absurd (omega arith)
 watch_fit all word name f (suc zero) a l = f
 watch_fit all word name f (suc (suc k)) a l = absurd (omega arith)
 
-spot_line_fit : (all : List (List (List ℕ))) (case : Case) (at : ProbeAt) → AreKnown all case → IsSpot (length case.pipes) (length case.nodes) at → said (spot_fields case.pipes case.nodes at) ≡ Some (spot_directive at)
+spot_line_fit : (all : List (List (List ℕ))) (case : Case) (at : ProbeAt) → AreKnown all case → IsSpot (length case.pipes) (length case.nodes) at → directive_said (spot_fields case.pipes case.nodes at) ≡ Some (spot_directive at)
     → IsFitLine all (spot_directive at) (spot_fields case.pipes case.nodes at)
 unfolding has_count has_too_many is_disordered field_kind
 spot_line_fit all case (OnPipe pipe place) a h s = record {
-  said = s;
+  directive_said = s;
   allowed = refl;
   some = omega arith;
   count = refl;
@@ -218,7 +218,7 @@ spot_line_fit all case (OnPipe pipe place) a h s = record {
   fit = later_fit all probe_fields _ (name_of_pipe case.pipes pipe ∷ count_text place ∷ []) (probe_fields_fit all case pipe place a h.0 h.1);
 }
 spot_line_fit all case (OnNode node) a h s = record {
-  said = s;
+  directive_said = s;
   allowed = refl;
   some = omega arith;
   count = refl;
@@ -351,7 +351,7 @@ table_line_fit all t h name =
     let c = length_pairs t.kind t.points in
     let some = h.some in
     let few = h.few in record {
-      said = of_table t;
+      directive_said = of_table t;
       allowed = refl;
       some = omega arith;
       count = and_from (length (table_line t) % 2 == 0) (nat_le (2 * least_entries t.kind + 2) (length (table_line t))) (eq-eqb (length (table_line t) % 2) 0 (omega arith)) (le-leb (2 * least_entries t.kind + 2) (length (table_line t)) (omega arith));

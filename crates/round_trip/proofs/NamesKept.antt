@@ -17,7 +17,7 @@ use Rattle.case_lines.specs.declared.words.Directive.TheVariants.{OfSingle, OfTa
 use Rattle.case_lines.specs.declared.fields.FieldKind.TheVariants.{NewName}
 use Rattle.case_lines.specs.Fields.{field, field_kind, has_count, is_name}
 use Rattle.case_lines.specs.Alone.{breaks_name, breaks_field}
-use Rattle.case_rules.specs.Said.{line_at, said, named_by, is_some_part, is_definition, defines}
+use Rattle.case_rules.specs.Said.{line_at, directive_said, named_by, is_some_part, is_definition, defines}
 use Rattle.case_rules.specs.Among.{line_rules}
 use Rattle.case_rules.specs.Counts.{is_table, is_node, is_pipe}
 use Rattle.netfile.specs.Built.{case_of, tables_of, nodes_of, pipes_of}
@@ -110,24 +110,24 @@ name_text lines d fields h k =
       short = short_name (field fields 1) (let f = k.each 1 10 (omega arith) l in rw e at f);
     }
 
-own_name : (o : Option Directive) (fields : List (List ℕ)) → said fields ≡ o → is_some_part (named_by o) ≡ true → nat_lt 1 (length fields) ≡ true → defines (field fields 1) fields ≡ true
+own_name : (o : Option Directive) (fields : List (List ℕ)) → directive_said fields ≡ o → is_some_part (named_by o) ≡ true → nat_lt 1 (length fields) ≡ true → defines (field fields 1) fields ≡ true
 unfolding defines is_definition
 own_name o fields s h l = rw (s, h, l) ((bytes_eq-Decides (field fields 1) (field fields 1)).1 refl)
 
-defines_own : (lines : List (List (List ℕ))) (d : Directive) (fields : List (List ℕ)) → said fields ≡ Some d → is_some_part (named_by (Some d)) ≡ true → IsKept lines d fields → defines (field fields 1) fields ≡ true
+defines_own : (lines : List (List (List ℕ))) (d : Directive) (fields : List (List ℕ)) → directive_said fields ≡ Some d → is_some_part (named_by (Some d)) ≡ true → IsKept lines d fields → defines (field fields 1) fields ≡ true
 defines_own lines d fields s h k = let l : 1 < length fields = two_fields d (length fields) h k.counted in own_name (Some d) fields s h (grind (arith, nat_tests))
 
 -- the lines of a kind of named parts
-text_on : (p : Option Directive → Bool) (lines : List (List (List ℕ))) → AreParts p → IsEmpty (line_rules lines) → (k : ℕ) → k < length lines → p (said (line_at lines k)) ≡ true → IsNameText (field (line_at lines k) 1)
+text_on : (p : Option Directive → Bool) (lines : List (List (List ℕ))) → AreParts p → IsEmpty (line_rules lines) → (k : ℕ) → k < length lines → p (directive_said (line_at lines k)) ≡ true → IsNameText (field (line_at lines k) 1)
 text_on p lines part empty k h s =
-    let n = part (said (line_at lines k)) s in
-    let d = some_directive (said (line_at lines k)) n in
+    let n = part (directive_said (line_at lines k)) s in
+    let d = some_directive (directive_said (line_at lines k)) n in
     name_text lines d.0 (line_at lines k) (subst (λ (o : Option Directive). is_some_part (named_by o) ≡ true) d.1 n) (kept_at lines k h empty d.0 d.1)
 
 defined_on : (p : Option Directive → Bool) (lines : List (List (List ℕ))) → AreParts p → IsEmpty (line_rules lines) → AreDefining p lines
 defined_on p lines part empty k h s =
-    let n = part (said (line_at lines k)) s in
-    let d = some_directive (said (line_at lines k)) n in
+    let n = part (directive_said (line_at lines k)) s in
+    let d = some_directive (directive_said (line_at lines k)) n in
     defines_own lines d.0 (line_at lines k) d.1 (subst (λ (o : Option Directive). is_some_part (named_by o) ≡ true) d.1 n) (kept_at lines k h empty d.0 d.1)
 
 once_on : (lines : List (List (List ℕ))) → IsEmpty (line_rules lines) → AreOnce lines

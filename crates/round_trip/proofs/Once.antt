@@ -17,7 +17,7 @@ use Rattle.case_model.specs.declared.cases.ProbeAt.{ProbeAt}
 use Rattle.case_model.specs.declared.cases.ProbeAt.TheVariants.{OnPipe, OnNode}
 use Rattle.case_lines.specs.Fields.{field}
 use Rattle.case_lines.specs.Words.{single_of, table_of, node_of, directive_of}
-use Rattle.case_rules.specs.Said.{line_at, said, named_by, is_some_part, is_definition, defines, is_single_directive, is_single, is_single_of}
+use Rattle.case_rules.specs.Said.{line_at, directive_said, named_by, is_some_part, is_definition, defines, is_single_directive, is_single, is_single_of}
 use Rattle.case_writing.specs.CaseText.{friction_word}
 use Rattle.round_trip.specs.Lines.{settings_lines, table_line, node_line, pipe_line, probe_line, case_lines}
 use Rattle.round_trip.specs.Writable.{case_names, AreApart}
@@ -116,12 +116,12 @@ unfolding is_definition
 probe_defines pipes nodes q = rw (of_probe pipes nodes q, spot_part q.at) refl
 
 friction_define : (b : Bool) (f : Friction) (rest : List (List (List ℕ))) → flat_map (named is_definition 1) (cond b [] ((codes "friction" ∷ friction_word f ∷ []) ∷ []) ++ rest) ≡ flat_map (named is_definition 1) rest
-unfolding is_definition said directive_of single_of table_of node_of
+unfolding is_definition directive_said directive_of single_of table_of node_of
 friction_define true f rest = refl
 friction_define false f rest = refl
 
 settings_define : (case : Case) (rest : List (List (List ℕ))) → flat_map (named is_definition 1) (settings_lines case ++ rest) ≡ flat_map (named is_definition 1) rest
-unfolding settings_lines is_definition said directive_of single_of table_of node_of
+unfolding settings_lines is_definition directive_said directive_of single_of table_of node_of
 settings_define case rest = friction_define (case.version == 1) case.friction rest
 
 four : (f : List (List ℕ) → List (List ℕ)) (a b c d : List (List (List ℕ))) → flat_map f (a ++ (b ++ (c ++ (d ++ [])))) ≡ flat_map f a ++ flat_map f b ++ flat_map f c ++ flat_map f d
@@ -149,12 +149,12 @@ single_words first =
     codes "step" ∷ codes "steps" ∷ codes "vapour" ∷ codes "weight" ∷ codes "tolerance" ∷ codes "every" ∷ friction_words first
 
 friction_single : (b : Bool) (f : Friction) (rest : List (List (List ℕ))) → flat_map (named is_single 0) (cond b [] ((codes "friction" ∷ friction_word f ∷ []) ∷ []) ++ rest) ≡ friction_words b ++ flat_map (named is_single 0) rest
-unfolding is_single said directive_of single_of table_of node_of
+unfolding is_single directive_said directive_of single_of table_of node_of
 friction_single true f rest = refl
 friction_single false f rest = refl
 
 settings_single : (case : Case) (rest : List (List (List ℕ))) → flat_map (named is_single 0) (settings_lines case ++ rest) ≡ single_words (case.version == 1) ++ flat_map (named is_single 0) rest
-unfolding settings_lines is_single said directive_of single_of table_of node_of
+unfolding settings_lines is_single directive_said directive_of single_of table_of node_of
 settings_single case rest =
     ap (λ (words : List (List ℕ)). codes "step" ∷ codes "steps" ∷ codes "vapour" ∷ codes "weight" ∷ codes "tolerance" ∷ codes "every" ∷ words)
     (friction_single (case.version == 1) case.friction rest)

@@ -18,7 +18,7 @@ use Rattle.case_lines.specs.Words.{directive_of, single_of, table_of, node_of, h
 use Rattle.case_lines.specs.Fields.{field, field_kind, has_count, has_too_many, single_field, is_heading}
 use Rattle.case_lines.specs.Tables.{is_disordered}
 use Rattle.case_lines.specs.Alone.{breaks_field, breaks_fields, is_readable, breaks_counted, breaks_known, breaks_alone}
-use Rattle.case_rules.specs.Said.{line_at, version_of, said, is_definition, defines, is_single, is_single_of}
+use Rattle.case_rules.specs.Said.{line_at, version_of, directive_said, is_definition, defines, is_single, is_single_of}
 use Rattle.case_rules.specs.Among.{directive_among, is_unknown, uses_unknown, breaks_counted as breaks_others, breaks_among, breaks_line, line_rules}
 use Rattle.surge_io.specs.Fields.{count_text}
 use Rattle.case_writing.specs.CaseText.{version_word, friction_word}
@@ -60,11 +60,11 @@ known_unbroken : (all : List (List (List ℕ))) (d : Directive) (fields : List (
 known_unbroken all d fields number f = rw f.count (counted_unbroken all d fields number f)
 
 alone_unbroken : (all : List (List (List ℕ))) (d : Directive) (fields : List (List ℕ)) (line number : ℕ) → (line == 1) ≡ false → IsFitLine all d fields → breaks_alone (version_of all) line fields number ≡ false
-unfolding breaks_alone said
+unfolding breaks_alone directive_said
 alone_unbroken all d fields line number e f =
     let some = f.some in
     let n : (length fields == 0) ≡ false = ne_eqb (length fields) 0 (λ z. omega arith) in
-    let s : directive_of (field fields 0) ≡ Some d = f.said in
+    let s : directive_of (field fields 0) ≡ Some d = f.directive_said in
     rw (e, n, s, f.allowed) (known_unbroken all d fields number f)
 
 others_unbroken : (before all : List (List (List ℕ))) (d : Directive) (fields : List (List ℕ)) (number : ℕ) → (is_definition fields && list_any (defines (field fields 1)) before) ≡ false → uses_unknown all d fields (length fields - 1) ≡ false
@@ -81,7 +81,7 @@ among_unbroken : (before all : List (List (List ℕ))) (d : Directive) (fields :
     → (is_single fields && list_any (is_single_of (field fields 0)) before) ≡ false → breaks_among before all (directive_among all fields) fields number ≡ false
 unfolding breaks_among
 among_unbroken before all d fields number f a c =
-    rw (f.said, f.allowed) (and_right (has_count d (length fields)) (breaks_others before all d fields number) (others_unbroken before all d fields number a (names_found all d fields f) c))
+    rw (f.directive_said, f.allowed) (and_right (has_count d (length fields)) (breaks_others before all d fields number) (others_unbroken before all d fields number a (names_found all d fields f) c))
 
 -- a line behind the first one
 later_unbroken : (before all : List (List (List ℕ))) (d : Directive) (fields : List (List ℕ)) (line number : ℕ) → (line == 1) ≡ false → IsFitLine all d fields → (is_definition fields && list_any (defines (field fields 1)) before) ≡ false
@@ -145,39 +145,39 @@ single_fields_fit all s word text f zero a l = absurd (omega arith)
 single_fields_fit all s word text f (suc zero) a l = f
 single_fields_fit all s word text f (suc (suc k)) a l = absurd (omega arith)
 
-single_fit : (all : List (List (List ℕ))) (s : Single) (word text : List ℕ) → said (word ∷ text ∷ []) ≡ Some (OfSingle s) → has_single (version_of all) s ≡ true → IsFit all (single_field s) text → IsLineFit all (word ∷ text ∷ [])
+single_fit : (all : List (List (List ℕ))) (s : Single) (word text : List ℕ) → directive_said (word ∷ text ∷ []) ≡ Some (OfSingle s) → has_single (version_of all) s ≡ true → IsFit all (single_field s) text → IsLineFit all (word ∷ text ∷ [])
 unfolding has_count has_too_many is_disordered
 single_fit all s word text e a f = record {
   directive = OfSingle s;
-  fit = record { said = e; allowed = a; some = omega arith; count = refl; few = refl; ordered = refl; fit = single_fields_fit all s word text f };
+  fit = record { directive_said = e; allowed = a; some = omega arith; count = refl; few = refl; ordered = refl; fit = single_fields_fit all s word text f };
 }
 
-step_said : (rest : List (List ℕ)) → said (codes "step" ∷ rest) ≡ Some (OfSingle Step)
-unfolding said directive_of single_of table_of node_of
+step_said : (rest : List (List ℕ)) → directive_said (codes "step" ∷ rest) ≡ Some (OfSingle Step)
+unfolding directive_said directive_of single_of table_of node_of
 step_said rest = refl
 
-steps_said : (rest : List (List ℕ)) → said (codes "steps" ∷ rest) ≡ Some (OfSingle Steps)
-unfolding said directive_of single_of table_of node_of
+steps_said : (rest : List (List ℕ)) → directive_said (codes "steps" ∷ rest) ≡ Some (OfSingle Steps)
+unfolding directive_said directive_of single_of table_of node_of
 steps_said rest = refl
 
-vapour_said : (rest : List (List ℕ)) → said (codes "vapour" ∷ rest) ≡ Some (OfSingle Vapour)
-unfolding said directive_of single_of table_of node_of
+vapour_said : (rest : List (List ℕ)) → directive_said (codes "vapour" ∷ rest) ≡ Some (OfSingle Vapour)
+unfolding directive_said directive_of single_of table_of node_of
 vapour_said rest = refl
 
-weight_said : (rest : List (List ℕ)) → said (codes "weight" ∷ rest) ≡ Some (OfSingle Weight)
-unfolding said directive_of single_of table_of node_of
+weight_said : (rest : List (List ℕ)) → directive_said (codes "weight" ∷ rest) ≡ Some (OfSingle Weight)
+unfolding directive_said directive_of single_of table_of node_of
 weight_said rest = refl
 
-tolerance_said : (rest : List (List ℕ)) → said (codes "tolerance" ∷ rest) ≡ Some (OfSingle Tolerance)
-unfolding said directive_of single_of table_of node_of
+tolerance_said : (rest : List (List ℕ)) → directive_said (codes "tolerance" ∷ rest) ≡ Some (OfSingle Tolerance)
+unfolding directive_said directive_of single_of table_of node_of
 tolerance_said rest = refl
 
-every_said : (rest : List (List ℕ)) → said (codes "every" ∷ rest) ≡ Some (OfSingle Every)
-unfolding said directive_of single_of table_of node_of
+every_said : (rest : List (List ℕ)) → directive_said (codes "every" ∷ rest) ≡ Some (OfSingle Every)
+unfolding directive_said directive_of single_of table_of node_of
 every_said rest = refl
 
-friction_said : (rest : List (List ℕ)) → said (codes "friction" ∷ rest) ≡ Some (OfSingle FrictionForm)
-unfolding said directive_of single_of table_of node_of
+friction_said : (rest : List (List ℕ)) → directive_said (codes "friction" ∷ rest) ≡ Some (OfSingle FrictionForm)
+unfolding directive_said directive_of single_of table_of node_of
 friction_said rest = refl
 
 count_within : (n : ℕ) → 1 ≤ n → n ≤ 100_000_000 → IsWithin (pos 1) (pos 100_000_000) (pos n)

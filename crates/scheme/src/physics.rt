@@ -78,6 +78,7 @@ impl<'a> Law for Physics<'a> {
         inner_law(self.case, self.mesh, At { pipe, place }, left, own, right)
     }
 
+    #[inline(always)]
     fn calm_run(&self, pipe: u32, first: u32, before: &[Spot], now: &mut [Spot]) -> usize {
         let at = At { pipe, place: first };
         match self.kept(pipe) {

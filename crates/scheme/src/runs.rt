@@ -17,6 +17,7 @@ use case_model::{Case, Mesh, Spot};
 use charline::Prepared;
 
 /// The points of a run of inner places of a pipe from a place on, as `Law::calm_run` has it.
+#[inline(always)]
 pub(crate) fn calm_run(
     case: &Case,
     mesh: &Mesh,
@@ -169,6 +170,7 @@ fn explicit_run(
 }
 
 // The value of C+ of the place before the first of a run.
+#[inline(always)]
 fn first_plus(prepared: &Prepared, before: &[Spot]) -> i64
     requires some { 2 ≤ length before.now }
     ensures { IsPlus prepared.now.b prepared.now.r (calm_at before.now 0) result }
@@ -185,6 +187,7 @@ fn second_plus(prepared: &Prepared, before: &[Spot]) -> i64
 }
 
 // The value of C- of the place after the first of a run.
+#[inline(always)]
 fn third_minus(prepared: &Prepared, before: &[Spot]) -> i64
     requires some { 3 ≤ length before.now }
     ensures { IsMinus prepared.now.b prepared.now.r (calm_at before.now 2) result }
@@ -193,6 +196,7 @@ fn third_minus(prepared: &Prepared, before: &[Spot]) -> i64
 }
 
 // Place by place, by the law of one.
+#[inline(never)]
 fn place_run<const LINEAR: bool>(
     case: &Case,
     mesh: &Mesh,

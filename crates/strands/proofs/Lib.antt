@@ -3,7 +3,7 @@ mod Fans
 mod Feeding
 pub mod Handing
 mod Loading
-mod Marking
+pub mod Marking
 mod Nodes
 mod Pairing
 mod Spoking

@@ -17,4 +17,4 @@ returns c = λ all t.
     line_later (take c.args.before all) all (c.args.before + 1) fs c.lesser.result (ne_eqb (c.args.before + 1) 1 (λ e. absurd (omega arith)))
     (c.lesser.ensures.least (breaks_alone (version_of all) (c.args.before + 1) fs)
     (breaks_among (take c.args.before all) all (directive_among all fs) fs) (rw t.version at c.judge_line-alone.ensures)
-    (rw (← t.version, ← c.said.ensures, ← c.directive_in-directive.ensures) (c.judge_among.ensures all t)))
+    (rw (← t.version, ← c.directive_said.ensures, ← c.directive_in-directive.ensures) (c.judge_among.ensures all t)))

@@ -1,6 +1,6 @@
 use Rattle.std.proofs.Common.{◌≡◌, ◌+◌, refl, arith}
 use Rattle.case_lines.specs.Texts.{lines_of}
-use Rattle.case_rules.specs.Said.{said}
+use Rattle.case_rules.specs.Said.{directive_said}
 use Rattle.case_rules.proofs.Tallied.{tallied_none, tallied_more, tallied_all, few_next, lines_next}
 use Rattle.case_rules.proofs.tally.tally_lines.Goals as goal
 
@@ -14,10 +14,10 @@ lines-init c = record {
 pub lines-preserved : goal.lines-preserved
 lines-preserved c =
     let e = rw c.in-Some.is at c.in_ok-line.ensures in
-    let n : c.add_line.new.tally.counts.lines ≡ c.lines.tally.counts.lines + 1 = lines_next c.lines.tally.counts c.add_line.new.tally.counts (said c.in-Some.line) c.in_ok-add_line.ensures.counts in
+    let n : c.add_line.new.tally.counts.lines ≡ c.lines.tally.counts.lines + 1 = lines_next c.lines.tally.counts c.add_line.new.tally.counts (directive_said c.in-Some.line) c.in_ok-add_line.ensures.counts in
     record {
       tallied = tallied_more c.lines.tally c.add_line.new.tally c.in-Some.line (lines_of c.in-Some.others.now) (lines_of c.args.bytes.now) c.in_ok-add_line.ensures (rw e.0 at c.lines.invariant.tallied);
-      few = few_next c.lines.tally.counts c.add_line.new.tally.counts (said c.in-Some.line) c.in_ok-add_line.ensures.counts c.lines.invariant.few;
+      few = few_next c.lines.tally.counts c.add_line.new.tally.counts (directive_said c.in-Some.line) c.in_ok-add_line.ensures.counts c.lines.invariant.few;
       within = omega (arith, n, e.1, c.lines.invariant.within);
     }
 

@@ -11,8 +11,8 @@ joined : {X : Type 0} (o : Option X) (later : List X) → cons_option o [] ++ la
 joined None later = refl
 joined (Some x) later = refl
 
-part_more : {X : Type 0} (old new : List X) (o said : Option X) (later rest all : List X) → new ≡ old ++ cons_option o [] → o ≡ said → rest ≡ cons_option said later → old ++ rest ≡ all → new ++ later ≡ all
-part_more old new o said later rest all e s r h =
+part_more : {X : Type 0} (old new : List X) (o directive_said : Option X) (later rest all : List X) → new ≡ old ++ cons_option o [] → o ≡ directive_said → rest ≡ cons_option directive_said later → old ++ rest ≡ all → new ++ later ≡ all
+part_more old new o directive_said later rest all e s r h =
     rw (e, append_assoc old (cons_option o []) later, joined o later, s) (ap (λ xs. old ++ xs) (sym r) ∙ h)
 
 parts_all : {X : Type 0} (old later all : List X) → later ≡ [] → old ++ later ≡ all → old ≡ all

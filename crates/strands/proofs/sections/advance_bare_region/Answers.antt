@@ -1,6 +1,5 @@
-use Rattle.std.proofs.Common.{◌≡◌, ◌+◌, ◌-◌, arith, subst}
-use Rattle.fronts.specs.Bands.{from_ends}
-use Rattle.fronts.specs.Fronts.{Raises, ever, loaded, swept, tent}
+use Rattle.std.proofs.Common.{◌≡◌, ◌+◌, ◌-◌, arith}
+use Rattle.fronts.specs.Fronts.{ever, loaded, swept, tent}
 use Rattle.fronts.specs.Stretches.{count_of}
 use Rattle.strands.proofs.Advancing.{advanced-end, advanced-none, middle-run, middle-noted, notes-same, region-more}
 use Rattle.strands.proofs.Marking.{same-line}
