@@ -52,7 +52,7 @@ fn least_pairs(kind: TableKind) -> usize
 // The greatest count of pairs of a table.
 fn most_pairs(kind: TableKind) -> usize
     ensures value { result ≡ most_entries kind }
-    ensures few { result ≤ 256 }
+    ensures few { result ≤ most_entries TableKind.Heads }
 {
     match kind {
         TableKind::Heads | TableKind::Flows | TableKind::Openings | TableKind::Speeds => 256,

@@ -29,13 +29,10 @@ pub(crate) fn cut_line(text: &[u8]) -> Option<(&[u8], &[u8])>
 }
 
 /// The fields of a line. Fails only for want of memory.
-#[tactic(auto, unfolding(crate::specs::Texts::fields_of, crate::specs::Texts::parts_of))]
+#[tactic(auto, unfolding(crate::specs::Texts::fields_of))]
 pub(crate) fn fields_of(alloc: Global, line: &[u8]) -> Result<Vec<&[u8]>, AllocError>
     ensures { IfOk result (λ found. map (λ f. f.now) found.items ≡ fields line.now) }
 {
-    if line.is_empty() {
-        return Ok(Vec::new(alloc));
-    }
     parts_of(alloc, without_comment(without_return(line)))
 }
 

@@ -68,6 +68,10 @@ pub fn next_line<'a>(
         (λ r. (lines_of text.now ≡ r.0 ∷ lines_of r.1.now)
         × (length r.1.now < length text.now))) }
 {
+    if !text.is_empty() && text[0] == b'\n' {
+        let (directive, fields) = (None, Vec::new(alloc));
+        return Ok(Some((Line { directive, fields }, &text[1..])));
+    }
     match cut_line(text) {
         Some((line, others)) => Ok(Some((line_of(alloc, line)?, others))),
         None => Ok(None),
@@ -79,16 +83,6 @@ pub fn line_of<'a>(alloc: Global, text: &'a [u8]) -> Result<Line<'a>, AllocError
     ensures { IfOk result (λ line. line ≡ fields_cut text.now) }
 {
     let fields = fields_of(alloc, text)?;
-    let directive = first_directive(&fields);
+    let directive = directive_of(field(&fields, 0));
     Ok(Line { directive, fields })
-}
-
-// The directive that the first field is; a line without fields is not compared with any word.
-fn first_directive(fields: &[&[u8]]) -> Option<Directive>
-    ensures { result ≡ directive_said (field_at (map (λ f. f.now) fields.now) 0) }
-{
-    if fields.is_empty() {
-        return None;
-    }
-    directive_of(field(fields, 0))
 }

@@ -2,7 +2,7 @@
 use Rattle.std.proofs.Common.{ℕ, ◌+◌, ◌<◌, ◌≤◌, ◌≡◌, ◌⊎◌, ◌==◌, ◌&&◌, ◌||◌, nat_lt, Bool, true, false, cond, IsTrue, Option, Some, None, List, [], ◌∷◌, length, sym, ◌∙◌, refl, arith, lt-ltb}
 use Rattle.std.proofs.Math.Bool.{or-false}
 use Rattle.std.specs.List.{list_any}
-use Rattle.std.specs.Option.{is_some}
+use mir.Val.{bool_byte}
 use Rattle.std.specs.HashMap.{get}
 use Rattle.std.specs.HashSet.{contains}
 use Rattle.std.specs.Str.{bytes_eq}
@@ -12,12 +12,12 @@ use Rattle.case_lines.specs.declared.words.Single.TheVariants.{Step, Steps}
 use Rattle.case_lines.specs.declared.words.Directive.{Directive}
 use Rattle.case_lines.specs.Fields.{field}
 use Rattle.case_rules.specs.declared.parts.Part.{Part}
-use Rattle.case_rules.specs.declared.tally.Counts.{Counts}
+use Rattle.case_rules.specs.declared.tally.SortTally.{SortTally}
 use Rattle.case_rules.specs.declared.tally.Tally.{Tally}
 use Rattle.case_rules.specs.Said.{version_of, directive_said, named_by, same_part, defines_part}
-use Rattle.case_rules.specs.Counts.{is_table, is_node, is_pipe, is_sampled, count_of, is_incomplete, is_too_large, count_rules}
+use Rattle.case_rules.specs.Counts.{is_table, is_node, is_pipe, is_sampled, count_of, most_parts, are_many, is_incomplete, is_too_large, count_rules}
 use Rattle.case_rules.specs.Known.{same_bytes, same_key, or_index, one_if, is_every, is_named, names_such, index_from, single_here, single_from, given_at, lacks_single}
-use Rattle.case_rules.specs.Tallies.{nothing, counted, IsFew, IsTally, IsAdded, IsTallied}
+use Rattle.case_rules.specs.Tallies.{IsFew, IsSortTally, IsTally, IsPartAdded, IsAdded, IsSortTallied, IsTallied}
 use Rattle.case_rules.proofs.SinglesKept.{or_none, some_single}
 use Rattle.std.specs.Option.{option_or}
 use Rattle.case_model.proofs.ListFacts.{option_or-assoc}
@@ -26,7 +26,7 @@ pub count_more : (p : Option Directive → Bool) (fields : List (List ℕ)) (lin
 unfolding count_of
 count_more p fields lines = sum_by-cons (λ f. one_if (p (directive_said f))) fields lines
 
-count_none : (p : Option Directive → Bool) (n m : ℕ) → n + count_of p [] ≡ m → n ≡ m
+pub count_none : (p : Option Directive → Bool) (n m : ℕ) → n + count_of p [] ≡ m → n ≡ m
 unfolding count_of
 count_none p n m h = omega (arith, h)
 
@@ -34,9 +34,9 @@ count_step : (p : Option Directive → Bool) (fields : List (List ℕ)) (lines :
 count_step p fields lines n m all e h = omega (arith, e, h, count_more p fields lines)
 
 moved : (old : Option ℕ) (b : Bool) (n : ℕ) (later : Option ℕ) → option_or (or_index old b n) later ≡ option_or old (cond b (Some n) later)
-moved (Some x) b n later = refl
+moved (Some x) true n later = refl
 moved None true n later = refl
-moved None false n later = refl
+moved old false n later = refl
 
 index_step : (counts : Option Directive → Bool) (test : List (List ℕ) → Bool) (n m : ℕ) (fields : List (List ℕ)) (rest : List (List (List ℕ))) (old new all : Option ℕ) → new ≡ or_index old (test fields) n → m ≡ n + one_if (counts (directive_said fields))
     → option_or old (index_from counts test n (fields ∷ rest)) ≡ all → option_or new (index_from counts test m rest) ≡ all
@@ -48,50 +48,44 @@ or_moved true false c = refl
 or_moved false true c = refl
 or_moved false false c = refl
 
-counts_more : (c : Counts) (directive : Option Directive) → ((counted c directive).lines ≡ c.lines + 1) × ((counted c directive).tables ≡ c.tables + one_if (is_table directive)) × ((counted c directive).nodes ≡ c.nodes + one_if (is_node directive))
-    × ((counted c directive).pipes ≡ c.pipes + one_if (is_pipe directive)) × ((counted c directive).probes ≡ c.probes + one_if (is_sampled directive))
-unfolding counted
-counts_more c directive = (refl, refl, refl, refl, refl)
+sort_none : (s : SortTally) (is_such : Option Directive → Bool) (all : List (List (List ℕ))) → (s.count ≡ 0) × (s.indices.entries ≡ []) → IsSortTallied s is_such all all
+sort_none s is_such all e = let c = e.0 in let i = e.1 in record { count = rw c (omega arith); indices = λ few name. rw (i, c) refl }
+
+sort_more : (s u : SortTally) (is_such : Option Directive → Bool) (fields : List (List ℕ)) (rest all : List (List (List ℕ))) → IsPartAdded s u is_such fields → IsSortTallied s is_such (fields ∷ rest) all → IsSortTallied u is_such rest all
+sort_more s u is_such fields rest all a h =
+    let c = count_step is_such fields rest s.count u.count _ a.count h.count in record {
+      count = c;
+      indices = λ few name. index_step is_such (names_such is_such name.now) s.count u.count fields rest (get same_bytes s.indices name) (get same_bytes u.indices name) _ (a.indices (omega (arith, c, few)) name) a.count (h.indices few name);
+    }
+
+sort_all : (s : SortTally) (is_such : Option Directive → Bool) (all : List (List (List ℕ))) → IsSortTallied s is_such [] all → IsSortTally s is_such all
+sort_all s is_such all h = record { count = count_none is_such _ _ h.count; indices = λ few name. sym (or_none (get same_bytes s.indices name)) ∙ h.indices few name }
 
 -- no line is read
-pub tallied_none : (t : Tally) (all : List (List (List ℕ))) → t.version ≡ version_of all → t.counts ≡ nothing → t.kinds.keys ≡ [] → t.names.entries ≡ [] → t.tables.entries ≡ [] → t.nodes.entries ≡ [] → t.pipes.entries ≡ [] → t.singles.items ≡ [] → IsTallied t all all
-tallied_none t all version counts kinds names tables nodes pipes singles = record {
+pub tallied_none : (t : Tally) (all : List (List (List ℕ))) → t.version ≡ version_of all → t.lines ≡ 0 → t.kinds.keys ≡ [] → t.names.entries ≡ [] → (t.tables.count ≡ 0) × (t.tables.indices.entries ≡ []) → (t.nodes.count ≡ 0) × (t.nodes.indices.entries ≡ []) → (t.pipes.count ≡ 0) × (t.pipes.indices.entries ≡ []) → t.probes ≡ 0 → t.singles.items ≡ [] → IsTallied t all all
+tallied_none t all version lines kinds names tables nodes pipes probes singles = record {
   version = version;
   kinds = λ part name. rw kinds refl;
-  names = λ name. rw (names, counts) refl;
-  tables = λ name. rw (tables, counts) refl;
-  nodes = λ name. rw (nodes, counts) refl;
-  pipes = λ name. rw (pipes, counts) refl;
-  singles = λ s. rw (singles, counts) refl;
-  table_count = rw counts (omega arith);
-  node_count = rw counts (omega arith);
-  pipe_count = rw counts (omega arith);
-  probe_count = rw counts (omega arith);
+  names = λ name. rw (names, lines) refl;
+  tables = sort_none t.tables is_table all tables;
+  nodes = sort_none t.nodes is_node all nodes;
+  pipes = sort_none t.pipes is_pipe all pipes;
+  probes = rw probes (omega arith);
+  singles = λ s. rw (singles, lines) refl;
 }
 
 -- one more line is read
 pub tallied_more : (t u : Tally) (fields : List (List ℕ)) (rest all : List (List (List ℕ))) → IsAdded t u fields → IsTallied t (fields ∷ rest) all → IsTallied u rest all
-tallied_more t u fields rest all a h =
-    let m = counts_more t.counts (directive_said fields) in
-    let c = a.counts in
-    let lines : u.counts.lines ≡ t.counts.lines + 1 = rw c m.0 in
-    let tables : u.counts.tables ≡ t.counts.tables + one_if (is_table (directive_said fields)) = rw c m.1 in
-    let nodes : u.counts.nodes ≡ t.counts.nodes + one_if (is_node (directive_said fields)) = rw c m.2 in
-    let pipes : u.counts.pipes ≡ t.counts.pipes + one_if (is_pipe (directive_said fields)) = rw c m.3 in
-    let probes : u.counts.probes ≡ t.counts.probes + one_if (is_sampled (directive_said fields)) = rw c m.4 in
-    record {
-      version = a.version ∙ h.version;
-      kinds = λ part name. rw (a.kinds part name) (or_moved (contains same_key t.kinds (part, name)) (defines_part part name.now fields) (list_any (defines_part part name.now) rest) ∙ h.kinds part name);
-      names = λ name. index_step is_every (names_such is_named name.now) t.counts.lines u.counts.lines fields rest (get same_bytes t.names name) (get same_bytes u.names name) _ (a.names name) lines (h.names name);
-      tables = λ name. index_step is_table (names_such is_table name.now) t.counts.tables u.counts.tables fields rest (get same_bytes t.tables name) (get same_bytes u.tables name) _ (a.tables name) tables (h.tables name);
-      nodes = λ name. index_step is_node (names_such is_node name.now) t.counts.nodes u.counts.nodes fields rest (get same_bytes t.nodes name) (get same_bytes u.nodes name) _ (a.nodes name) nodes (h.nodes name);
-      pipes = λ name. index_step is_pipe (names_such is_pipe name.now) t.counts.pipes u.counts.pipes fields rest (get same_bytes t.pipes name) (get same_bytes u.pipes name) _ (a.pipes name) pipes (h.pipes name);
-      singles = λ s. rw (a.singles s, lines) (option_or-assoc (given_at t.singles.items s) (single_here s t.counts.lines fields) (single_from s (t.counts.lines + 1) rest) ∙ h.singles s);
-      table_count = count_step is_table fields rest t.counts.tables u.counts.tables _ tables h.table_count;
-      node_count = count_step is_node fields rest t.counts.nodes u.counts.nodes _ nodes h.node_count;
-      pipe_count = count_step is_pipe fields rest t.counts.pipes u.counts.pipes _ pipes h.pipe_count;
-      probe_count = count_step is_sampled fields rest t.counts.probes u.counts.probes _ probes h.probe_count;
-    }
+tallied_more t u fields rest all a h = let lines = a.lines in record {
+  version = a.version ∙ h.version;
+  kinds = λ part name. rw (a.kinds part name) (or_moved (contains same_key t.kinds (part, name)) (defines_part part name.now fields) (list_any (defines_part part name.now) rest) ∙ h.kinds part name);
+  names = λ name. index_step is_every (names_such is_named name.now) t.lines u.lines fields rest (get same_bytes t.names name) (get same_bytes u.names name) _ (a.names name) lines (h.names name);
+  tables = sort_more t.tables u.tables is_table fields rest all a.tables h.tables;
+  nodes = sort_more t.nodes u.nodes is_node fields rest all a.nodes h.nodes;
+  pipes = sort_more t.pipes u.pipes is_pipe fields rest all a.pipes h.pipes;
+  probes = count_step is_sampled fields rest t.probes u.probes _ a.probes h.probes;
+  singles = λ s. rw (a.singles s, lines) (option_or-assoc (given_at t.singles.items s) (single_here s t.lines fields) (single_from s (t.lines + 1) rest) ∙ h.singles s);
+}
 
 -- all lines are read
 pub tallied_all : (t : Tally) (all : List (List (List ℕ))) → IsTallied t [] all → IsTally t all
@@ -99,40 +93,30 @@ tallied_all t all h = record {
   version = h.version;
   kinds = λ part name. sym (or-false (contains same_key t.kinds (part, name))) ∙ h.kinds part name;
   names = λ name. sym (or_none (get same_bytes t.names name)) ∙ h.names name;
-  tables = λ name. sym (or_none (get same_bytes t.tables name)) ∙ h.tables name;
-  nodes = λ name. sym (or_none (get same_bytes t.nodes name)) ∙ h.nodes name;
-  pipes = λ name. sym (or_none (get same_bytes t.pipes name)) ∙ h.pipes name;
+  tables = sort_all t.tables is_table all h.tables;
+  nodes = sort_all t.nodes is_node all h.nodes;
+  pipes = sort_all t.pipes is_pipe all h.pipes;
+  probes = count_none is_sampled _ _ h.probes;
   singles = λ s. sym (or_none (given_at t.singles.items s)) ∙ h.singles s;
-  table_count = count_none is_table _ _ h.table_count;
-  node_count = count_none is_node _ _ h.node_count;
-  pipe_count = count_none is_pipe _ _ h.pipe_count;
-  probe_count = count_none is_sampled _ _ h.probe_count;
 }
+
+pub byte_is : (b : Bool) → bool_byte b ≡ one_if b
+byte_is true = refl
+byte_is false = refl
 
 one_le : (b : Bool) → one_if b ≤ 1
 one_le true = omega arith
 one_le false = omega arith
 
 -- the counts stay below the count of lines
-pub few_next : (c u : Counts) (directive : Option Directive) → u ≡ counted c directive → IsFew c.lines c → IsFew u.lines u
-few_next c u directive e f =
-    let m = counts_more c directive in
-    rw e (record {
-      lines = omega arith;
-      tables = omega (arith, m.0, m.1, f.tables, one_le (is_table directive));
-      nodes = omega (arith, m.0, m.2, f.nodes, one_le (is_node directive));
-      pipes = omega (arith, m.0, m.3, f.pipes, one_le (is_pipe directive));
-      probes = omega (arith, m.0, m.4, f.probes, one_le (is_sampled directive));
-    })
-
-pub lines_next : (c u : Counts) (directive : Option Directive) → u ≡ counted c directive → u.lines ≡ c.lines + 1
-lines_next c u directive e = rw e (counts_more c directive).0
-
--- a name that a line defines, by its directive
-pub name_added : (is_such : Option Directive → Bool) (b : Bool) (o : Option Directive) (fields : List (List ℕ)) (name : List ℕ) (old new : Option ℕ) (index : ℕ) → b ≡ is_such o → o ≡ directive_said fields
-    → new ≡ or_index old (b && nat_lt 1 (length fields) && bytes_eq (field fields 1) name) index → new ≡ or_index old (names_such is_such name fields) index
-unfolding names_such
-name_added is_such b o fields name old new index e k h = rw (← k, ← e) h
+pub few_next : (t u : Tally) (fields : List (List ℕ)) → IsAdded t u fields → IsFew t.lines t → IsFew u.lines u
+few_next t u fields a f = record {
+  lines = omega arith;
+  tables = omega (arith, a.lines, a.tables.count, f.tables, one_le (is_table (directive_said fields)));
+  nodes = omega (arith, a.lines, a.nodes.count, f.nodes, one_le (is_node (directive_said fields)));
+  pipes = omega (arith, a.lines, a.pipes.count, f.pipes, one_le (is_pipe (directive_said fields)));
+  probes = omega (arith, a.lines, a.probes, f.probes, one_le (is_sampled (directive_said fields)));
+}
 
 chosen : (a b d : Bool) → cond (a && b) true d ≡ ((a && true && b) || d)
 chosen true true d = refl
@@ -147,31 +131,19 @@ added part own name text fields d e l f =
     let t : nat_lt 1 (length fields) ≡ true = lt-ltb 1 (length fields) l in
     rw (e, t, f) (chosen (same_part own part) (bytes_eq (field fields 1) name) d)
 
--- a line without a directive defines none
-pub none_of : (o : Option Directive) → is_some o ≡ false → o ≡ None
-none_of None h = refl
-none_of (Some d) h = absurd (cc)
-
-index_none : (o : Option ℕ) (n : ℕ) → o ≡ or_index o false n
-index_none None n = refl
-index_none (Some x) n = refl
-
-pub no_name : (is_such : Option Directive → Bool) (fields : List (List ℕ)) (name : List ℕ) (o : Option ℕ) (n : ℕ) → directive_said fields ≡ None → is_such None ≡ false → o ≡ or_index o (names_such is_such name fields) n
-unfolding names_such
-no_name is_such fields name o n e f = rw (e, f) (index_none o n)
-
-pub no_kind : (part : Part) (fields : List (List ℕ)) (name : List ℕ) (b : Bool) → directive_said fields ≡ None → b ≡ (defines_part part name fields || b)
-unfolding defines_part
-no_kind part fields name b e = rw e refl
+-- one that is counted within the most parts has an index
+pub still_such : (b : Bool) (n m : ℕ) → m ≡ bool_byte b → n + m ≤ most_parts → (b && nat_lt n most_parts) ≡ b
+still_such true n m e h = let e : m ≡ 1 = e in lt-ltb n most_parts (omega (arith, e))
+still_such false n m e h = refl
 
 -- the tests of a tally are those of its lines
-pub incomplete_is : (t : Tally) (lines : List (List (List ℕ))) → IsTally t lines → is_incomplete lines ≡ (lacks_single t.singles.items Step || lacks_single t.singles.items Steps || (t.counts.pipes == 0))
+pub incomplete_is : (t : Tally) (lines : List (List (List ℕ))) → IsTally t lines → is_incomplete lines ≡ (lacks_single t.singles.items Step || lacks_single t.singles.items Steps || (t.pipes.count == 0))
 unfolding is_incomplete
-incomplete_is t lines h = rw (h.singles Step, h.singles Steps, h.pipe_count, some_single Step 0 lines, some_single Steps 0 lines) refl
+incomplete_is t lines h = rw (h.singles Step, h.singles Steps, h.pipes.count, some_single Step 0 lines, some_single Steps 0 lines) refl
 
-pub too_large_is : (t : Tally) (lines : List (List (List ℕ))) → IsTally t lines → is_too_large lines ≡ (nat_lt 1_024 t.counts.tables || nat_lt 4_096 t.counts.nodes || nat_lt 4_096 t.counts.pipes || nat_lt 256 t.counts.probes)
+pub too_large_is : (t : Tally) (lines : List (List (List ℕ))) → IsTally t lines → is_too_large lines ≡ are_many t.tables.count t.nodes.count t.pipes.count t.probes
 unfolding is_too_large
-too_large_is t lines h = rw (h.table_count, h.node_count, h.pipe_count, h.probe_count) refl
+too_large_is t lines h = rw (h.tables.count, h.nodes.count, h.pipes.count, h.probes) refl
 
 -- the refusals on counts
 on_zero : (a b : Bool) (l n : ℕ) → IsTrue ((l == 0) && (((n == 8) && a) || ((n == 10) && b))) → (l ≡ 0) × (((n ≡ 8) × (a ≡ true)) ⊎ ((n ≡ 10) × (b ≡ true)))

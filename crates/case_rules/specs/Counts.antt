@@ -3,6 +3,7 @@ use Rattle.std.specs.Prelude.{ℕ, ◌==◌, ◌&&◌, ◌||◌, not, nat_lt, Bo
 use Rattle.std.specs.Prelude.{List, codes, count_by}
 use Rattle.std.specs.List.{list_any}
 use Rattle.case_model.specs.Sets.{Rules}
+use Rattle.case_model.specs.declared.cases.TheConstants.{MOST_PROBES}
 use Rattle.case_lines.specs.declared.words.Directive.{Directive}
 use Rattle.case_lines.specs.declared.words.Directive.TheVariants.{OfTable, OfNode, OfPipe}
 use Rattle.case_lines.specs.declared.words.Directive.TheVariants.{OfProbe, OfWatch}
@@ -36,11 +37,20 @@ is_incomplete lines =
     not (list_any (is_single_of (codes "step")) lines)
     || not (list_any (is_single_of (codes "steps")) lines) || (count_of is_pipe lines == 0)
 
+-- the most nodes of a case, and the most of its pipes; it may have fewer tables
+abbrev pub most_parts : ℕ
+most_parts = 4_096
+
 -- whether there are too many tables, nodes, pipes, or probes and watches
+abbrev pub are_many : ℕ → ℕ → ℕ → ℕ → Bool
+are_many tables nodes pipes probes =
+    nat_lt 1_024 tables || nat_lt most_parts nodes || nat_lt most_parts pipes
+    || nat_lt MOST_PROBES probes
+
 unfoldable pub is_too_large : List (List (List ℕ)) → Bool
 is_too_large lines =
-    nat_lt 1_024 (count_of is_table lines) || nat_lt 4_096 (count_of is_node lines)
-    || nat_lt 4_096 (count_of is_pipe lines) || nat_lt 256 (count_of is_sampled lines)
+    are_many (count_of is_table lines) (count_of is_node lines) (count_of is_pipe lines)
+    (count_of is_sampled lines)
 
 unfoldable pub count_rules : List (List (List ℕ)) → Rules
 count_rules lines line number =

@@ -35,8 +35,7 @@ AreNames names lines =
 
 -- an index that is there already, or else a new one where a test passes
 abbrev pub or_index : Option ℕ → Bool → ℕ → Option ℕ
-or_index (Some old) passes index = Some old
-or_index None passes index = if passes then Some index else None
+or_index old passes index = if passes then option_or old (Some index) else old
 
 abbrev pub one_if : Bool → ℕ
 one_if b = if b then 1 else 0

@@ -32,6 +32,9 @@ pub(crate) fn judge(tally: &Tally, before: u32, line: &Line) -> Option<u8>
     ensures { (all : Items (Items (Items ℕ))) → IsTally tally.now all →
         FindsLeast (breaks_line (take before all) all (before + 1) line.now) result }
 {
+    if before > 0 && line.count() == 0 {
+        return None;
+    }
     let alone = judge_line(tally.version, before as u64 + 1, line);
     if before == 0 {
         return alone;

@@ -13,4 +13,4 @@ mod tally;
 pub use counting::judge_counts;
 pub use parts::{Part, directive_said};
 pub use reading::judge_lines;
-pub use tally::{Tally, tally_lines};
+pub use tally::{SortTally, Tally, tally_lines};

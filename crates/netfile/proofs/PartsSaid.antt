@@ -2,7 +2,6 @@
 use Rattle.std.proofs.Common.{ℕ, ◌+◌, ◌<◌, ◌≤◌, ◌≡◌, ◌==◌, ◌||◌, not, nat_lt, Bool, false, cond, Option, Some, None, List, [], ◌∷◌, length, codes, ap, sym, subst, ◌∙◌, refl, arith, ◌&&◌, true, suc, get_or}
 use Rattle.std.proofs.lemmas.Bool.{false_from_ne_true, or_right}
 use Rattle.std.specs.List.{list_any, cons_option, position_from, AllByRecursion}
-use Rattle.std.proofs.lemmas.List.Sums.{sum_by-cons}
 use Rattle.std.proofs.lemmas.Bool.Decides.{nat_tests}
 use Rattle.case_model.specs.declared.cases.Table.{Table}
 use Rattle.case_model.specs.declared.cases.Node.{Node}
@@ -15,7 +14,7 @@ use Rattle.case_rules.specs.Said.{directive_said, is_single_of, named_by, is_som
 use Rattle.case_rules.specs.Counts.{is_table, is_node, is_pipe, is_sampled, count_of, is_incomplete, is_too_large, count_rules}
 use Rattle.netfile.specs.Built.{parts_from, table_by, table_said, tables_from, tables_of, node_by, node_said, nodes_from, nodes_of, pipe_by, pipe_said, pipes_from, pipes_of, probe_by, probe_said, probes_from, probes_of, pipe_of}
 use Rattle.case_rules.specs.Known.{one_if, names_such, index_from}
-use Rattle.case_rules.proofs.Tallied.{count_more}
+use Rattle.case_rules.proofs.Tallied.{count_more, count_none}
 use Rattle.std.specs.Str.{bytes_eq}
 use Rattle.case_lines.specs.Fields.{field}
 use Rattle.case_rules.specs.declared.tally.Tally.{Tally}
@@ -81,10 +80,6 @@ listed p test says line [] f h = h
 listed p test says line (fields ∷ lines) f h =
     one_of (test fields) (list_any test lines) h (f line fields (parts_from says (line + 1) lines)) (λ e. any_cons p (says line fields) (parts_from says (line + 1) lines) (listed p test says (line + 1) lines f e))
 
-count_none : (p : Option Directive → Bool) → 0 ≡ count_of p []
-unfolding count_of
-count_none p = refl
-
 -- a line is counted exactly where it says such a part
 table_one : (d : Option Directive) (line : ℕ) (fields : List (List ℕ)) (rest : List Table) → length (cons_option (table_by d line fields) rest) ≡ one_if (is_table d) + length rest
 table_one (Some OfPipe) line fields rest = omega arith
@@ -104,7 +99,7 @@ probe_one pipes nodes _ line fields rest = omega arith
 
 parts_count : {X : Type 0} (says : ℕ → List (List ℕ) → Option X) (is_such : Option Directive → Bool) → ((at : ℕ) (fields : List (List ℕ)) (rest : List X) → length (cons_option (says at fields) rest) ≡ one_if (is_such (directive_said fields)) + length rest)
     → (line : ℕ) (lines : List (List (List ℕ))) → length (parts_from says line lines) ≡ count_of is_such lines
-parts_count says is_such f line [] = count_none is_such
+parts_count says is_such f line [] = count_none is_such 0 (count_of is_such []) (omega arith)
 parts_count says is_such f line (fields ∷ lines) =
     f line fields (parts_from says (line + 1) lines) ∙ ap (λ n. one_if (is_such (directive_said fields)) + n) (parts_count says is_such f (line + 1) lines) ∙ sym (count_more is_such fields lines)
 
@@ -205,14 +200,14 @@ pipe_says nodes name (Some OfPipe) line fields e h = (rw e refl, (h (rw e refl))
 pipe_says nodes name _ line fields e h = rw e refl
 
 -- the indices of a tally are those of the parts that its lines say
-pub tables_placed : (t : Tally) (lines : List (List (List ℕ))) → IsTally t lines → AllByRecursion IsNamed lines → IndexTables t.tables (tables_of lines)
+pub tables_placed : (t : Tally) (lines : List (List (List ℕ))) → IsTally t lines → IsEmpty (count_rules lines) → AllByRecursion IsNamed lines → IndexTables t.tables.indices (tables_of lines)
 unfolding table_said
-tables_placed t lines h n = λ name. h.tables name ∙ sym (place (λ (x : Table). bytes_eq x.name name.now) is_table name.now table_said (λ at fields. table_says name.now (directive_said fields) at fields refl) 0 1 lines n)
+tables_placed t lines h empty n = λ name. h.tables.indices (omega (arith, (few_counts lines empty).tables)) name ∙ sym (place (λ (x : Table). bytes_eq x.name name.now) is_table name.now table_said (λ at fields. table_says name.now (directive_said fields) at fields refl) 0 1 lines n)
 
-pub nodes_placed : (t : Tally) (lines : List (List (List ℕ))) → IsTally t lines → AllByRecursion IsNamed lines → IndexNodes t.nodes (nodes_of lines)
+pub nodes_placed : (t : Tally) (lines : List (List (List ℕ))) → IsTally t lines → IsEmpty (count_rules lines) → AllByRecursion IsNamed lines → IndexNodes t.nodes.indices (nodes_of lines)
 unfolding node_said
-nodes_placed t lines h n = λ name. h.nodes name ∙ sym (place (λ (x : Node). bytes_eq x.name name.now) is_node name.now (node_said (tables_of lines)) (λ at fields. node_says (tables_of lines) name.now (directive_said fields) at fields refl) 0 1 lines n)
+nodes_placed t lines h empty n = λ name. h.nodes.indices (few_counts lines empty).nodes name ∙ sym (place (λ (x : Node). bytes_eq x.name name.now) is_node name.now (node_said (tables_of lines)) (λ at fields. node_says (tables_of lines) name.now (directive_said fields) at fields refl) 0 1 lines n)
 
-pub pipes_placed : (t : Tally) (lines : List (List (List ℕ))) → IsTally t lines → AllByRecursion IsNamed lines → IndexPipes t.pipes (pipes_of lines)
+pub pipes_placed : (t : Tally) (lines : List (List (List ℕ))) → IsTally t lines → IsEmpty (count_rules lines) → AllByRecursion IsNamed lines → IndexPipes t.pipes.indices (pipes_of lines)
 unfolding pipe_said
-pipes_placed t lines h n = λ name. h.pipes name ∙ sym (place (λ (x : Pipe). bytes_eq x.name name.now) is_pipe name.now (pipe_said (nodes_of lines)) (λ at fields. pipe_says (nodes_of lines) name.now (directive_said fields) at fields refl) 0 1 lines n)
+pipes_placed t lines h empty n = λ name. h.pipes.indices (few_counts lines empty).pipes name ∙ sym (place (λ (x : Pipe). bytes_eq x.name name.now) is_pipe name.now (pipe_said (nodes_of lines)) (λ at fields. pipe_says (nodes_of lines) name.now (directive_said fields) at fields refl) 0 1 lines n)

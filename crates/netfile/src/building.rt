@@ -2,6 +2,8 @@
 ghost use Rattle.std.specs.Prelude.{◌≡◌, ◌≤◌, ℕ, ℤ, pos, neg_ℤ, codes, IfOk, length};
 ghost use Rattle.std.specs.List.{AllByRecursion};
 ghost use Rattle.case_lines.specs.Texts.{lines_of};
+ghost use Rattle.case_model.specs.Sets.{IsEmpty};
+ghost use Rattle.case_rules.specs.Counts.{count_rules};
 ghost use Rattle.case_rules.specs.Tallies.{IsTally};
 ghost use Rattle.netfile.specs.Named.{IsNamed, IsPlaced};
 ghost use Rattle.netfile.specs.Parts.{ArePartsOf};
@@ -22,6 +24,7 @@ use std::alloc::{AllocError, Global};
 pub(crate) fn case_of(alloc: Global, bytes: &[u8], tally: &Tally) -> Result<Case, AllocError>
     requires short { length bytes.now ≤ 8_388_608 }
     requires tally { IsTally tally.now (lines_of bytes.now) }
+    requires counts { IsEmpty (count_rules (lines_of bytes.now)) }
     requires named { AllByRecursion IsNamed (lines_of bytes.now) }
     requires placed { AllByRecursion IsPlaced (lines_of bytes.now) }
     ensures { IfOk result (λ case. case ≡ case_said (lines_of bytes.now)) }
@@ -62,6 +65,7 @@ pub(crate) struct Parts {
 fn parts_of(alloc: Global, bytes: &[u8], tally: &Tally) -> Result<Parts, AllocError>
     requires short { length bytes.now ≤ 8_388_608 }
     requires tally { IsTally tally.now (lines_of bytes.now) }
+    requires counts { IsEmpty (count_rules (lines_of bytes.now)) }
     requires named { AllByRecursion IsNamed (lines_of bytes.now) }
     requires placed { AllByRecursion IsPlaced (lines_of bytes.now) }
     ensures { IfOk result (λ parts. ArePartsOf parts (lines_of bytes.now)) }
@@ -75,11 +79,11 @@ fn parts_of(alloc: Global, bytes: &[u8], tally: &Tally) -> Result<Parts, AllocEr
     'lines: while let Some((line, others)) = next_line(alloc, rest)? {
         number += 1;
         add(&mut tables, table_said(alloc, number, &line)?)?;
-        add(&mut nodes, node_said(&tally.tables, number, &line))?;
-        add(&mut pipes, pipe_said(&tally.nodes, number, &line))?;
+        add(&mut nodes, node_said(&tally.tables.indices, number, &line))?;
+        add(&mut pipes, pipe_said(&tally.nodes.indices, number, &line))?;
         add(
             &mut probes,
-            probe_said(&tally.pipes, &tally.nodes, number, &line),
+            probe_said(&tally.pipes.indices, &tally.nodes.indices, number, &line),
         )?;
         rest = others;
     }

@@ -197,9 +197,6 @@ place_amount n h = above PipePlace 0 65_536 (pos n) refl refl (omega arith) (rec
 probe_fields_fit : (all : List (List (List ℕ))) (case : Case) (pipe place : ℕ) → AreKnown all case → pipe < length case.pipes → place ≤ 65_536 → AreFit all probe_fields (name_of_pipe case.pipes pipe ∷ count_text place ∷ [])
 probe_fields_fit all case pipe place a l h = (pipe_fit all case pipe a l, (amount_fit all PipePlace (pos place) (place_amount place h), tt))
 
-watch_fields_fit : (all : List (List (List ℕ))) (case : Case) (node : ℕ) → AreKnown all case → node < length case.nodes → AreFit all (NodeName ∷ []) (name_of_node case.nodes node ∷ [])
-watch_fields_fit all case node a l = (node_fit all case node a l, tt)
-
 watch_fit : (all : List (List (List ℕ))) (word name : List ℕ) → IsFit all NodeName name → (k : ℕ) → 1 ≤ k → k < length (word ∷ name ∷ []) → IsFit all NodeName (field (word ∷ name ∷ []) k)
 watch_fit all word name f zero a l = absurd (omega arith)
 watch_fit all word name f (suc zero) a l = f

@@ -1,17 +1,12 @@
 -- Numbers as a case text writes them: what bytes they have, and what they read as.
-use Rattle.std.proofs.Common.{ℕ, ℤ, pos, negsuc, zero, suc, ◌+◌, ◌/◌, ◌%◌, ◌^◌, ◌<◌, ◌≤◌, ◌≡◌, ◌==◌, Bool, true, false, cond, List, [], ◌∷◌, ◌++◌, length, length-append, unsigned_abs, Ok, refl, arith}
+use Rattle.std.proofs.Common.{ℕ, ℤ, pos, negsuc, zero, suc, ◌+◌, ◌/◌, ◌%◌, ◌^◌, ◌<◌, ◌≤◌, ◌≡◌, ◌==◌, Bool, true, false, cond, List, [], ◌∷◌, ◌++◌, length, length-append, unsigned_abs, refl, arith}
 use Rattle.std.proofs.lemmas.Bool.{and_from}
 use Rattle.std.specs.List.{list_all}
 use Rattle.std.specs.Fmt.{decimal, digits, digits_onto, digit_glyph}
 use Rattle.std.proofs.lemmas.List.Folds.{list_all-append}
-use Rattle.fixed_num.specs.Decimal.{number_of}
 use Rattle.fixed_num.specs.Written.{written, sign, fraction_text, last_digits}
-use Rattle.fixed_num.proofs.Back.{back}
 use Rattle.round_trip.specs.Plain.{is_number_byte, is_plain_byte, is_plain}
 use Rattle.round_trip.proofs.Tests.{all_weaker}
-
-pub number_back : (places : ℕ) (x : ℤ) → places ≤ 12 → unsigned_abs x ≤ 1_000_000_000_000_000_000 → number_of places (written places x) ≡ Ok x
-number_back places x few small = back places x small
 
 is_digit_of : (m : ℕ) → is_number_byte (48 + m % 10) ≡ true
 is_digit_of m = grind arith

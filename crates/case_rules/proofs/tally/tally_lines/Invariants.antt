@@ -6,8 +6,8 @@ use Rattle.case_rules.proofs.tally.tally_lines.Given as goal
 abbrev pub invariant-lines : goal.invariant-lines
 invariant-lines l = record {
   tallied : IsTallied l.tally (lines_of l.rest) (lines_of l.bytes);
-  few : IsFew l.tally.counts.lines l.tally.counts;
-  within : l.tally.counts.lines + length l.rest ≤ length l.bytes;
+  few : IsFew l.tally.lines l.tally;
+  within : l.tally.lines + length l.rest ≤ length l.bytes;
 }
 
 abbrev pub decreases-lines : goal.decreases-lines

@@ -27,9 +27,9 @@ lines-preserved c =
     let m = rw c.in-Some.is at c.in_ok-line.ensures in
     let named = rw m.0 at c.lines.invariant.named in
     let placed = rw m.0 at c.lines.invariant.placed in
-    let ts = tables_placed c.args.tally.now all c.requires.tally c.requires.named in
-    let ns = nodes_placed c.args.tally.now all c.requires.tally c.requires.named in
-    let ps = pipes_placed c.args.tally.now all c.requires.tally c.requires.named in
+    let ts = tables_placed c.args.tally.now all c.requires.tally c.requires.counts c.requires.named in
+    let ns = nodes_placed c.args.tally.now all c.requires.tally c.requires.counts c.requires.named in
+    let ps = pipes_placed c.args.tally.now all c.requires.tally c.requires.counts c.requires.named in
     record {
       tables = part_more c.lines.tables.items c.add.new.list.items _ (table_said n fs) (tables_from (n + 1) more) (tables_from n (lines_of c.lines.rest.now)) _
           c.in_ok-add.ensures c.in_ok-table_said.ensures (ap (tables_from n) m.0) c.lines.invariant.tables;

@@ -27,6 +27,9 @@ returns-in_err-judge_counts-clause-refused c =
     passed_on _ fault _ c.from_residual-in_err-judge_counts.ensures.1
     (refused c.args.bytes.now fault (omega arith) (λ number line e. inr (c.in_ok-judge_lines.ensures.kept, inl (c.in_err-judge_counts.ensures.refused number line (ap Err e) (lines_of c.args.bytes.now) c.in_ok-tally.ensures))))
 
+pub case_of-requires-clause-counts : goal.case_of-requires-clause-counts
+case_of-requires-clause-counts c = c.in_ok-judge_counts.ensures.kept (lines_of c.args.bytes.now) c.in_ok-tally.ensures
+
 pub case_of-requires-clause-named : goal.case_of-requires-clause-named
 case_of-requires-clause-named c = all_named (lines_of c.args.bytes.now) c.in_ok-judge_lines.ensures.kept
 
