@@ -169,7 +169,7 @@ ready-few law frontier ready =
     regions-few (is_section_body frontier.body) frontier.computed frontier.windows
     (ready-below law frontier ready)
 
-same-marked : (law : Meaning) (one other : Marks) (s k : ℕ) → one s k ≡ other s k
+pub same-marked : (law : Meaning) (one other : Marks) (s k : ℕ) → one s k ≡ other s k
     → marked law one s k ≡ marked law other s k
 unfolding marked
 same-marked law one other s k e = ap (λ (b : Bool). if b then rows_noted law s k else None) e

@@ -9,7 +9,6 @@ mod Made
 mod OnPipes
 mod Parts
 mod Sizing
-mod Turning
 mod Unprobed
 mod Wording
 pub mod Begun
@@ -25,3 +24,4 @@ pub mod Spans
 pub mod Spots
 pub mod Starts
 pub mod Tents
+pub mod Turning

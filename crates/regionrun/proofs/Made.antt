@@ -1,6 +1,6 @@
 -- What strands have when they are made.
 use Rattle.std.proofs.Common.{◌≡◌, ℕ, ◌+◌, ◌*◌, ◌<◌, inl, inr, Bool, true, false, length, List, []}
-use Rattle.std.proofs.Common.{◌∷◌, ◌++◌, get_or, None, refl, ap, sym, subst, ◌∙◌, arith, length-append}
+use Rattle.std.proofs.Common.{◌∷◌, ◌++◌, get_or, refl, ap, sym, subst, ◌∙◌, arith, length-append}
 use Rattle.std.specs.Prelude.{if◌then◌else◌}
 use Rattle.std.proofs.lemmas.Bool.{cases_lt}
 use Rattle.std.proofs.lemmas.List.{get_or_append_left, get_or_default, get_or_push}
@@ -12,7 +12,6 @@ use Rattle.case_model.specs.Meaning.{Meaning}
 use Rattle.case_model.specs.Mesh.{base_of, ends_of, reaches}
 use Rattle.envelope.specs.Folds.{Stands}
 use Rattle.envelope.specs.Notings.{nothing}
-use Rattle.envelope.specs.Rows.{rows_noted}
 use Rattle.envelope.specs.declared.folds.Fold.{Fold}
 use Rattle.regions.specs.declared.shapes.Layout.{Layout}
 use Rattle.regions.specs.declared.shapes.Shape.{Shape}
@@ -20,7 +19,7 @@ use Rattle.regions.specs.declared.shapes.Shape.TheVariants.{OfNode, OfSeam, OfSe
 use Rattle.regions.specs.Sides.{end_at, shape_at}
 use Rattle.regionrun.proofs.Begun.{node-start, seam-start, section-start}
 use Rattle.regionrun.proofs.Flags.{some-of}
-use Rattle.regionrun.proofs.Keeping.{StandForEqual}
+use Rattle.regionrun.proofs.Keeping.{StandForEqual, same-marked}
 use Rattle.regionrun.specs.Bodies.{IsBodyAt, IsBodyOf}
 use Rattle.regionrun.specs.Engine.{AreAt, none}
 use Rattle.regionrun.specs.Lawful.{IsLawful}
@@ -142,11 +141,6 @@ no_marks s k = false
 marked-none : (law : Meaning) (s k : ℕ) → nothing s k ≡ marked law no_marks s k
 unfolding marked
 marked-none law s k = refl
-
-same-marked : (law : Meaning) (one other : Marks) (s k : ℕ) → one s k ≡ other s k
-    → marked law one s k ≡ marked law other s k
-unfolding marked
-same-marked law one other s k e = ap (λ (b : Bool). if b then rows_noted law s k else None) e
 
 pub stands-first : (law : Meaning) (layout : Layout) (x : ℕ) (body : Body) (old new : Fold)
     → IsLawful layout law.mesh → x < length layout.shapes

@@ -10,7 +10,7 @@ use Rattle.case_model.specs.Meaning.{Meaning}
 use Rattle.envelope.specs.Cells.{is_within}
 use Rattle.case_model.specs.PlaceNumbers.{place_at}
 use Rattle.case_model.specs.Rows.{row}
-use Rattle.envelope.specs.Folds.{IsSameFold, Stands, spans_of, steps_of}
+use Rattle.envelope.specs.Folds.{IsFoldOf, IsSameFold, Stands, spans_of, steps_of}
 use Rattle.envelope.specs.Notings.{Agree, IsInside, Noted, Noting, nothing, union}
 use Rattle.envelope.specs.Rows.{noting_at, rows_noted}
 use Rattle.envelope.specs.declared.folds.Fold.{Fold}
@@ -30,10 +30,22 @@ use Rattle.regionrun.specs.Lawful.{IsLawful}
 use Rattle.regionrun.specs.Owned.{IsReached, owned, owned_below}
 use Rattle.regionrun.specs.Right.{IsRight, IsRightAt, region_count, strand_spans}
 use Rattle.regionrun.proofs.Gathered.{owned_below-all, owned_below-more, owned_below-none}
+use Rattle.regionrun.proofs.Keeping.{same-marked}
 use Rattle.regionrun.proofs.Reached.{owned-reached}
 use Rattle.regionrun.proofs.Spanned.{node-within, seam-within, section-within}
 use Rattle.fronts.proofs.Lining.{value-of}
 use Rattle.std.specs.Option.{option_or}
+
+-- a fold of the same shape has what was given to the other
+pub given-still : (spans : List (ℕ × ℕ)) (probes : List ℕ) (steps every : ℕ) (old new : Fold)
+    → IsFoldOf spans probes steps every old → IsSameFold old new
+    → IsFoldOf spans probes steps every new
+given-still spans probes steps every old new was same = record {
+  spans_are = same.spans_are ∙ was.spans_are;
+  probes_are = same.probes_are ∙ was.probes_are;
+  steps_are = same.steps_are ∙ was.steps_are;
+  every_is = same.every_is ∙ was.every_is;
+}
 
 -- ---- where a strand's places lie, its fold has spans
 
@@ -68,11 +80,6 @@ unfolding marked
 agree-marked law one other s k x y a b =
     let z = noting_at (row law s) (place_at law.mesh k) in
     value-of (one s k) z x a ∙ sym (value-of (other s k) z y b)
-
-same-marked : (law : Meaning) (one other : Marks) (s k : ℕ) → one s k ≡ other s k
-    → marked law one s k ≡ marked law other s k
-unfolding marked
-same-marked law one other s k e = rw e refl
 
 inside-within : (law : Meaning) (spans : List (ℕ × ℕ)) (marks : Marks)
     → IsInside spans (marked law (within_marks spans marks))

@@ -79,7 +79,7 @@ start-by layout mesh x r k (OfSection p place count left right) (OnPipe o i) law
 
 -- ---- and each of these is in region 0
 
-some-windows : (n w : ℕ) → 1 ≤ n * w → 0 < n
+pub some-windows : (n w : ℕ) → 1 ≤ n * w → 0 < n
 some-windows zero w h = let z : 0 * w ≡ 0 = omega arith in omega arith
 some-windows (suc n) w h = omega arith
 

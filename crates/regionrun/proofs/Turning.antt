@@ -139,7 +139,7 @@ needed-is true zero b need = cc
 needed-is true (suc m) b need = let e : m ≡ b = cc in omega arith
 needed-is false r b need = let e : r ≡ b = cc in omega arith
 
-some-of : (o : Option ℕ) → is_some o ≡ true → (b : ℕ) × (o ≡ Some b)
+pub some-of : (o : Option ℕ) → is_some o ≡ true → (b : ℕ) × (o ≡ Some b)
 some-of (Some b) e = (b, refl)
 some-of None e = cc
 

@@ -13,7 +13,7 @@ ghost use Rattle.regionrun.specs.Bodies.{IsBareBody, IsBodyAt, IsNoting};
 ghost use Rattle.regionrun.specs.Engine.{AreAt, none};
 ghost use Rattle.regionrun.specs.Gathering.{AreParts};
 ghost use Rattle.regionrun.specs.Lawful.{IsLawful};
-ghost use Rattle.regionrun.specs.Made.{IsNewFrontier, first_marks};
+ghost use Rattle.regionrun.specs.Made.{AreNew, IsNewFrontier, first_marks};
 ghost use Rattle.regionrun.specs.Owned.{owned};
 ghost use Rattle.regionrun.specs.Right.{Keeps};
 ghost use Rattle.regionrun.specs.Surveys.{AreProbed, HasSpans, IsStrandFold, IsSurvey, IsWholeFold};
@@ -190,6 +190,9 @@ pub fn make_strands<L: Law, G: Gate>(
     requires mesh { survey.now.mesh.now ≡ (L.meaning law.now).mesh }
     ensures at { IfOk result (λ strands. AreAt G.Stub.strand_of G.Stub.entered_of
         (L.meaning law.now) survey.now.layout.now none strands.items) }
+    ensures made { IfOk result (λ strands. AreNew G.Stub.strand_of G.Stub.entered_of
+        survey.now.case.now (L.meaning law.now) survey.now.layout.now survey.now.probes.now
+        (length survey.now.layout.now.shapes) strands.items) }
     ensures parts { IfOk result (λ strands. (into : FoldSeen) →
         IsWholeFold survey.now.case.now survey.now.mesh.now survey.now.probes.now into →
         AreParts into strands.items) }

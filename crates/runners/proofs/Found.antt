@@ -23,7 +23,8 @@ use Rattle.runners.specs.Runners.{IsGood, computed_in, number_in}
 use Rattle.runners.specs.declared.runners.Runner.{Runner}
 use Rattle.runners.specs.declared.tags.RunTag.{RunTag}
 use Rattle.runners.proofs.Listed.{item-of}
-use Rattle.runners.proofs.Needing.{needs-next, some-of}
+use Rattle.regionrun.proofs.Turning.{some-of}
+use Rattle.schedule.proofs.Sound.{needs-low}
 use Rattle.schedule.specs.Nets.{needed_of}
 
 -- the sizes that a writer's seat keeps are those of its history
@@ -54,7 +55,7 @@ seen-published law layout histories x m old new at blocks b j d need inside =
     let below : j < length old = subst (λ (k : ℕ). j < k) have.each inside in
     let there : j < sides_of layout law.mesh x = subst (λ (k : ℕ). j < k) at.each below in
     subst (λ (k : ℕ). k < (reading (slice_index_or new j d).seat).seen)
-    ((at.reader j d there).next_is ∙ needs-next (is_section layout x) m b need)
+    ((at.reader j d there).next_is ∙ needs-low (is_section layout x) m b need)
     (have.seen j d d below).ready
 
 -- and has still, when the gate is passed
@@ -119,7 +120,7 @@ module _ {L S : Type 0} where
         block = s.0;
         needed = s.1;
         few = subst (λ (k : ℕ). late.1 ≤ k)
-            ((at.reader is.side d is.there).next_is ∙ needs-next kind m s.0 s.1) (is.late d);
+            ((at.reader is.side d is.there).next_is ∙ needs-low kind m s.0 s.1) (is.late d);
         late = is;
         strand = strand;
         writer = writer;

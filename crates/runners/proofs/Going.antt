@@ -1,13 +1,11 @@
 -- A runner that has gone on is still a runner of its tag.
-use Rattle.std.specs.Prelude.{◌≡◌, ℕ, ◌+◌, ◌<◌, ◌≤◌, ◌==◌, false, min, length, List, Option}
+use Rattle.std.specs.Prelude.{◌≡◌, ℕ, ◌+◌, ◌<◌, ◌≤◌, ◌==◌, false, min, length, Option}
 use Rattle.std.specs.Prelude.{slice_index_or}
 use Rattle.std.specs.Global.{Vec}
 use Rattle.std.proofs.Common.{◌∙◌, ap, sym, subst, refl, arith}
 use Rattle.std.proofs.lemmas.Bool.Decides.{nat_tests}
 use Rattle.case_model.specs.Meaning.{Meaning}
-use Rattle.envelope.specs.Folds.{IsFoldOf, IsSameFold}
 use Rattle.envelope.specs.RowFolds.{probe_numbers}
-use Rattle.envelope.specs.declared.folds.Fold.{Fold}
 use Rattle.endhistory.specs.Seats.{IsAt, blocks_of, writing}
 use Rattle.endhistory.specs.declared.history.History.{History}
 use Rattle.endhistory.specs.declared.history.Reader.{Reader}
@@ -18,48 +16,13 @@ use Rattle.regionrun.specs.Stubs.{HasStub}
 use Rattle.regionrun.specs.Surveys.{IsStrandFold}
 use Rattle.regionrun.specs.declared.frontiers.Frontier.{Frontier}
 use Rattle.regionrun.specs.declared.one_strand.Strand.{Strand}
+use Rattle.regionrun.proofs.Merging.{given-still}
 use Rattle.runners.specs.Ends.{AreReadersAt, IsWriterAt}
 use Rattle.runners.specs.Runners.{IsGood, IsRunning, computed_in, is_finished, number_in}
 use Rattle.runners.specs.declared.runners.Runner.{Runner}
 use Rattle.runners.specs.declared.tags.RunTag.{RunTag}
 use Rattle.runners.proofs.Taking.{writer-on}
 use Rattle.schedule.specs.Nets.{needed_of}
-
--- a strand is the same as itself, and as one that is the same as it
-pub same-itself : (one : Frontier) → IsSameStrand one one
-same-itself one = record {
-  number_is = refl;
-  window_is = refl;
-  windows_are = refl;
-  sides_are = refl;
-  fold_is = record { spans_are = refl; probes_are = refl; steps_are = refl; every_is = refl };
-}
-
-pub same-on : (one two three : Frontier) → IsSameStrand one two → IsSameStrand two three
-    → IsSameStrand one three
-same-on one two three a b = record {
-  number_is = b.number_is ∙ a.number_is;
-  window_is = b.window_is ∙ a.window_is;
-  windows_are = b.windows_are ∙ a.windows_are;
-  sides_are = b.sides_are ∙ a.sides_are;
-  fold_is = record {
-    spans_are = b.fold_is.spans_are ∙ a.fold_is.spans_are;
-    probes_are = b.fold_is.probes_are ∙ a.fold_is.probes_are;
-    steps_are = b.fold_is.steps_are ∙ a.fold_is.steps_are;
-    every_is = b.fold_is.every_is ∙ a.fold_is.every_is;
-  };
-}
-
--- a fold that has what another has is made of the same
-given-still : (spans : List (ℕ × ℕ)) (probes : List ℕ) (steps every : ℕ) (old new : Fold)
-    → IsFoldOf spans probes steps every old → IsSameFold old new
-    → IsFoldOf spans probes steps every new
-given-still spans probes steps every old new was same = record {
-  spans_are = same.spans_are ∙ was.spans_are;
-  probes_are = same.probes_are ∙ was.probes_are;
-  steps_are = same.steps_are ∙ was.steps_are;
-  every_is = same.every_is ∙ was.every_is;
-}
 
 below-unless : (a b : ℕ) → a ≤ b → (a == b) ≡ false → a < b
 below-unless a b low other = grind (arith, nat_tests)

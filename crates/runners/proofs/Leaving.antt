@@ -26,7 +26,7 @@ use Rattle.runners.specs.Ends.{AreReadersAt}
 use Rattle.runners.specs.Runners.{IsGood, computed_in, number_in}
 use Rattle.runners.specs.declared.runners.Runner.{Runner}
 use Rattle.runners.specs.declared.tags.RunTag.{RunTag}
-use Rattle.runners.proofs.Needing.{needs-next}
+use Rattle.schedule.proofs.Sound.{needs-low}
 use Rattle.schedule.specs.Nets.{needed_of}
 
 -- a reader that has looked and passed
@@ -109,7 +109,7 @@ module _ {L S : Type 0} where
         read = λ b j d e need there.
             has-read law layout tag.histories.now x (needed_of (is_section layout x) m) b j
             r0.readers.items r3.readers.items r5.readers.items d e good.running.readers
-            (needs-next (is_section layout x) m b need)
+            (needs-low (is_section layout x) m b need)
             (subst (λ (w : Vec Reader). HaveSeen (length r0.readers.items) r0.readers.items w.items)
             (sym v) (blocks.needed b need))
             (subst (λ (w : Vec Reader). ArePassed (length r3.readers.items) r3.readers.items

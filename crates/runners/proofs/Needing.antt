@@ -5,25 +5,9 @@ use Rattle.std.proofs.Common.{refl, arith}
 use Rattle.regions.specs.Needs.{needs_of}
 use Rattle.schedule.specs.Nets.{needed_of, regions_of}
 
-pub some-of : (o : Option ℕ) → is_some o ≡ true → (b : ℕ) × (o ≡ Some b)
-some-of (Some b) e = (b, refl)
-some-of None e = cc
-
 pub none-of : (o : Option ℕ) → is_some o ≡ false → o ≡ None
 none-of (Some b) e = cc
 none-of None e = refl
-
--- a region needs the block after those that the regions before it needed
-pub needs-next : (kind : Bool) (m b : ℕ) → needs_of kind m ≡ Some b → needed_of kind m ≡ b
-needs-next false m b need = cc
-needs-next true zero b need = cc
-needs-next true (suc m) b need = let e : m ≡ b = cc in omega arith
-
-pub needs-one : (kind : Bool) (m b : ℕ) → needs_of kind m ≡ Some b
-    → needed_of kind (m + 1) ≡ b + 1
-needs-one false m b need = let e : m ≡ b = cc in omega arith
-needs-one true zero b need = cc
-needs-one true (suc m) b need = let e : m ≡ b = cc in omega arith
 
 pub needs-none : (kind : Bool) (m : ℕ) → needs_of kind m ≡ None
     → needed_of kind (m + 1) ≡ needed_of kind m

@@ -16,7 +16,9 @@ use Rattle.regionrun.specs.declared.frontiers.Frontier.{Frontier}
 use Rattle.runners.specs.Blocks.{ArePassed, AreToTake, IsToTake}
 use Rattle.runners.specs.Ends.{AreReadersAt, IsReaderAt}
 use Rattle.runners.proofs.Listed.{set-behind, set-next}
-use Rattle.runners.proofs.Needing.{needs-below, needs-next, needs-one, some-of}
+use Rattle.regionrun.proofs.Turning.{some-of}
+use Rattle.runners.proofs.Needing.{needs-below}
+use Rattle.schedule.proofs.Sound.{needs-low, needs-next}
 use Rattle.schedule.specs.Nets.{needed_of}
 
 pub none-passed : (readers : List Reader) → ArePassed 0 readers readers
@@ -173,7 +175,7 @@ all-to-take law layout histories frontier first readers is at some more seen =
       needed = s.1;
       few = needs-below kind layout.windows m s.0 more s.1;
       at = subst (λ (k : ℕ). AreReadersAt law layout histories frontier.number k readers)
-          (needs-next kind m s.0 s.1) at;
+          (needs-low kind m s.0 s.1) at;
       seen = λ j d below. seen s.0 j d s.1 below;
     }
 
@@ -189,7 +191,7 @@ all-on law layout histories x m first old last new first_is last_is some on at =
     let s = some-of (needs_of kind m) some in
     subst (AreReadersAt law layout histories x (needed_of kind (m + 1))) (sym last_is)
     (subst (λ (k : ℕ). AreReadersAt law layout histories x k last)
-    (sym (needs-one kind m s.0 s.1))
+    (sym (needs-next kind m s.0 s.1))
     (on s.0 (subst (AreReadersAt law layout histories x s.0) (sym first_is)
-    (subst (λ (k : ℕ). AreReadersAt law layout histories x k old) (needs-next kind m s.0 s.1)
+    (subst (λ (k : ℕ). AreReadersAt law layout histories x k old) (needs-low kind m s.0 s.1)
     at))))

@@ -25,12 +25,12 @@ raise-more f x n y = elim (cases_eq y x) [
 ]
 
 -- what a region needs lies between what the regions below it need and what it needs too
-needs-low : (s : Bool) (m b : ℕ) → needs_of s m ≡ Some b → needed_of s m ≡ b
+pub needs-low : (s : Bool) (m b : ℕ) → needs_of s m ≡ Some b → needed_of s m ≡ b
 needs-low true zero b e = cc
 needs-low true (suc m) b e = let q : m ≡ b = cc in omega arith
 needs-low false m b e = let q : m ≡ b = cc in q
 
-needs-next : (s : Bool) (m b : ℕ) → needs_of s m ≡ Some b → needed_of s (m + 1) ≡ b + 1
+pub needs-next : (s : Bool) (m b : ℕ) → needs_of s m ≡ Some b → needed_of s (m + 1) ≡ b + 1
 needs-next true zero b e = cc
 needs-next true (suc m) b e = let q : m ≡ b = cc in omega arith
 needs-next false m b e = let q : m ≡ b = cc in omega arith

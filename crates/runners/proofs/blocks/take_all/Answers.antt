@@ -1,6 +1,6 @@
 use Rattle.std.proofs.Common.{◌≡◌, ℕ, ◌<◌, ◌∙◌, arith, length, refl, slice_index_or, subst}
 use Rattle.runners.specs.Blocks.{ArePassed}
-use Rattle.runners.proofs.Going.{same-itself, same-on}
+use Rattle.regionrun.proofs.Turning.{same-itself, same-on}
 use Rattle.runners.proofs.Passing.{all-passed, all-sides, none-passed, on-passed, one-loaded}
 use Rattle.runners.proofs.Passing.{one-passed, same-strand, to-take}
 use Rattle.runners.proofs.blocks.take_all.Goals as goal
