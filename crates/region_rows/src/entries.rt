@@ -1,19 +1,13 @@
 //! Rows of the region engine: which strands are begun and which regions are entered, in what order.
+use crate::texts::{CHAIN, SEVEN};
 use regionrun::{Gate, OpenStub};
 use std::alloc::{AllocError, Global};
+use std::sync::Wait;
 use std::sync::atomic::{AtomicU64, Ordering};
 use std::test::Fail;
 use std::thread::Threads;
 use surge_io::{MemorySink, MemorySource};
-use surge_top::{Status, surge_plain};
-
-// A pipe of 7 reaches.
-const SEVEN: &[u8] =
-    b"surge 1\nstep 0.1\nsteps 6\nreservoir A 0 100\nreservoir B 0 100\npipe P A B 700 1 1000 0 0\n";
-
-// A short pipe of 2 reaches and a long one of 40 at a middle node.
-const CHAIN: &[u8] =
-    b"surge 1\nstep 0.1\nsteps 10\nreservoir A 0 100\njunction J 0 0 100\nreservoir B 0 100\npipe P A J 200 1 1000 0 0\npipe Q J B 4000 1 1000 0 0\n";
+use surge_top::{Status, surge};
 
 // A gate for one thread. It counts the strands that are begun in order, and the entries, and keeps the digits of the last
 // entries: one more than the number of the strand.
@@ -49,7 +43,7 @@ impl Gate for Counting {
 }
 
 // The gate after these words over this text, and the status.
-fn passed<R: Threads + AllocGlobal + Sync>(
+fn passed<R: Threads + Wait + AllocGlobal + Sync>(
     rt: &R,
     words: &[&str],
     text: &[u8],
@@ -62,7 +56,7 @@ fn passed<R: Threads + AllocGlobal + Sync>(
         entered: AtomicU64::new(0),
         order: AtomicU64::new(0),
     };
-    let status = surge_plain(rt, words, &mut source, &mut sink, &mut gate);
+    let status = surge(rt, words, &mut source, &mut sink, &mut gate);
     Ok((status, gate))
 }
 
@@ -77,12 +71,15 @@ fn one_section_is_entered_before_its_nodes(rt: HostRuntime) -> Result<(), Fail> 
     Ok(())
 }
 
-// By hand: windows of 2 steps make 5 windows; 22 stations of 5 regions and 21 sections of 6.
+// By hand: windows of 2 steps make 5 windows; 22 stations of 5 regions and 21 sections of 6. In turns
+// and by one worker that goes over the strands.
 #[test]
 fn each_region_is_entered_once(rt: HostRuntime) -> Result<(), Fail> {
-    let (status, gate) = passed(&rt, &["surge", "rounds"], CHAIN)?;
-    assert_eq!(&rt; status, Status::Done);
-    assert_eq!(&rt; gate.begun, 43);
-    assert_eq!(&rt; gate.entered.load(Ordering::SeqCst), 236);
+    for command in ["rounds", "run"] {
+        let (status, gate) = passed(&rt, &["surge", command, "--workers", "1"], CHAIN)?;
+        assert_eq!(&rt; status, Status::Done);
+        assert_eq!(&rt; gate.begun, 43);
+        assert_eq!(&rt; gate.entered.load(Ordering::SeqCst), 236);
+    }
     Ok(())
 }

@@ -2,4 +2,8 @@
 #![tactic(auto)]
 
 #[cfg(test)]
+mod asynchronous;
+#[cfg(test)]
 mod entries;
+#[cfg(test)]
+mod texts;

@@ -16,7 +16,7 @@ use Rattle.case_model.specs.Samples.{Sample, sample}
 use Rattle.envelope.proofs.CellLaws.{within-first}
 use Rattle.envelope.specs.Cells.{IsRising, end_of_span}
 use Rattle.envelope.specs.Faults.{HasFault}
-use Rattle.envelope.specs.Folds.{Stands, IsFoldOf, IsSameFold, spans_of, steps_of}
+use Rattle.envelope.specs.Folds.{Stands, IsFoldOf, spans_of, steps_of}
 use Rattle.envelope.specs.Kept.{extreme_kept, sample_kept}
 use Rattle.envelope.specs.Lines.{AreWithin}
 use Rattle.envelope.specs.RowFolds.{HasRows, IsFoldOfCase, probe_numbers}
@@ -108,15 +108,6 @@ pub peak_is : (law : Meaning) (case : Case) (mesh : Mesh) (fold : Fold) → law.
     → IsAccepted case mesh → IsSmall case mesh → IsFoldOf ((0, mesh.places) ∷ []) (probe_numbers mesh case) case.steps case.every fold
     → peak_text case mesh (λ at. extreme_kept fold (number_of mesh at)) ≡ peak_text case mesh (extreme_at law case.steps)
 peak_is law case mesh fold e extremes peak told clear = subst (IsPeak law case fold) e (peak_over law case fold extremes peak told clear)
-
--- a fold of the same shape has what was given to it
-pub given_still : (spans : List (ℕ × ℕ)) (probes : List ℕ) (steps every : ℕ) (old new : Fold) → IsFoldOf spans probes steps every old → IsSameFold old new → IsFoldOf spans probes steps every new
-given_still spans probes steps every old new p q = record {
-  spans_are = q.spans_are ∙ p.spans_are;
-  probes_are = q.probes_are ∙ p.probes_are;
-  steps_are = q.steps_are ∙ p.steps_are;
-  every_is = q.every_is ∙ p.every_is;
-}
 
 -- the first fault, of a law and a step that are known by other names
 pub fault_here : (law other : Meaning) (n last : ℕ) (o : Option (ℕ × ℕ)) → o ≡ first_fault law n → law ≡ other → n ≡ last → first_fault other last ≡ o

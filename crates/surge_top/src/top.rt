@@ -8,32 +8,76 @@ ghost use Rattle.netfile.specs.Verdict.{verdict};
 ghost use Rattle.surge_io.specs.Faults.{Rose};
 ghost use Rattle.surge_top.specs.Answer.{answer, answer_to, answer_case as answer_of, are_read};
 ghost use Rattle.surge_top.specs.Answer.{reads, unread};
-ghost use Rattle.surge_top.specs.Outcome.{HasAnswered, IsFront, IsInput, Tells};
+ghost use Rattle.surge_top.specs.Outcome.{HasAnswered, HasAnsweredWords, IsFront, IsInput, Tells};
 ghost use Rattle.surge_top.specs.Status.{IsAnswered};
 
 use crate::computing::{peak, rounds};
 use crate::cutting::cut;
+use crate::running::run_input;
 use crate::status::Status;
 use case_model::{Case, CaseFault, Mesh};
 use case_writing::write_upgraded;
 use command_words::{Command, Job, WordsFault, read_words};
 use drill::drill_text;
 use netfile::{MOST_BYTES, read_case};
-use regionrun::{Gate, Workers};
+use regionrun::Gate;
 use report::{write_accepted, write_refusal, write_usage};
 use std::alloc::AllocError;
+use std::sync::Wait;
 use std::thread::Threads;
 use surge_io::{Failed, ReadFault, Sink, Source, whole};
 
 /// What the program does: judges its words, reads a case text from the source, and writes its
-/// answer to the sink. Strands pass the gate each time they enter a region.
+/// answer to the sink. Strands pass the gate each time they enter a region. `run` goes by workers
+/// that wait for one another; every other command is that of `surge_plain`, and returns.
 ///
 /// The answer is that of the definitions for these words and for the bytes that were taken from the
 /// source, whatever the source and the sink are and do: all bytes up to the source's end, or one
 /// past the limit. Refused words and a drill have none taken. A read fault comes only where the
 /// source's count of faults rose, a write fault only where the sink's did; want of memory is free,
 /// and comes before the first byte is written.
+pub fn surge<R: Threads + Wait + AllocGlobal + Sync, S: Source, K: Sink, G: Gate + Sync>(
+    rt: &R,
+    words: &[&str],
+    src: &mut S,
+    out: &mut K,
+    gate: &mut G,
+) -> Status
+    ensures { HasAnsweredWords S.gives S.left S.faults K.held K.faults
+        (map (λ w. w.now) words.now) result src.old src.new out.old out.new }
+{
+    match read_words(rt.alloc(), words) {
+        Ok(job) if is_run(job.command) => run_input(rt, job, src, out, gate),
+        _ => surge_plain(rt, words, src, out, gate),
+    }
+}
+
+// Whether a command goes by workers that wait for one another.
+fn is_run(command: Command) -> bool
+    ensures { (result ≡ true) → command ≡ Command.Run }
+{
+    match command {
+        Command::Run => true,
+        _ => false,
+    }
+}
+
+/// The same without waiting: `run` does what `rounds` does, and every command returns.
 pub fn surge_plain<R: Threads + AllocGlobal + Sync, S: Source, K: Sink, G: Gate + Sync>(
+    rt: &R,
+    words: &[&str],
+    src: &mut S,
+    out: &mut K,
+    gate: &mut G,
+) -> Status
+    ensures { HasAnsweredWords S.gives S.left S.faults K.held K.faults
+        (map (λ w. w.now) words.now) result src.old src.new out.old out.new }
+{
+    answer_words(rt, words, src, out, gate)
+}
+
+// The same, clause by clause.
+fn answer_words<R: Threads + AllocGlobal + Sync, S: Source, K: Sink, G: Gate + Sync>(
     rt: &R,
     words: &[&str],
     src: &mut S,
@@ -184,15 +228,11 @@ fn answer_case<R: Threads + AllocGlobal + Sync, K: Sink, G: Gate + Sync>(
     requires accepted { IsAccepted case.now mesh.now }
     ensures { HasAnswered K.held K.faults result out.old out.new (answer_of job case.now mesh.now) }
 {
-    let workers = Workers {
-        rt,
-        count: job.workers,
-    };
     match job.command {
         Command::Check => ended(write_accepted(out), Status::Done),
         Command::Mesh => cut(rt.alloc(), case, mesh, job.window, out),
-        Command::Rounds | Command::Run => rounds(&workers, case, mesh, job.window, out, gate),
-        Command::Drill => peak(&workers, case, mesh, job.window, out, gate),
+        Command::Rounds | Command::Run => rounds(rt, job, case, mesh, out, gate),
+        Command::Drill => peak(rt, job, case, mesh, out, gate),
         Command::Upgrade => ended(write_upgraded(case, out), Status::Done),
     }
 }

@@ -47,6 +47,17 @@ impl Answer {
         self.at == self.bytes.len()
     }
 
+    /// How many of its lines begin with this text.
+    pub(crate) fn lines_with(&self, piece: &[u8]) -> u64 {
+        let mut count = 0u64;
+        for line in self.bytes.split(|byte| *byte == b'\n') {
+            if line.starts_with(piece) {
+                count = count.saturating_add(1);
+            }
+        }
+        count
+    }
+
     /// Whether it has this text somewhere.
     pub(crate) fn has(&self, piece: &[u8]) -> bool {
         match (std::str::from_utf8(&self.bytes), std::str::from_utf8(piece)) {

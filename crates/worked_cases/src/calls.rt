@@ -3,20 +3,23 @@ use case_lines::{judge_line, line_of};
 use netfile::{read_case, write_case};
 use regionrun::OpenGate;
 use std::alloc::{AllocError, Global};
+use std::sync::Wait;
 use std::thread::Threads;
 use surge_io::{MemorySink, MemorySource};
-use surge_top::{Status, surge_plain};
+use surge_top::{Status, surge};
 
-/// What stands outside the program in a row: which reads and which writes fail, and the room for the answer.
+/// What stands outside the program in a row: how many bytes a read gives at most, which reads and which writes
+/// fail, and the room for the answer.
 #[derive(Drop)]
 pub(crate) struct Outside {
+    pub(crate) pieces: usize,
     pub(crate) reads: Vec<u64>,
     pub(crate) writes: Vec<u64>,
     pub(crate) room: usize,
 }
 
-/// The status and the text that these words have over this text, which is read in pieces of 8 bytes.
-pub(crate) fn answer<R: Threads + AllocGlobal + Sync>(
+/// The status and the text that these words have over this text.
+pub(crate) fn answer<R: Threads + Wait + AllocGlobal + Sync>(
     rt: &R,
     words: &[&str],
     text: &[u8],
@@ -25,9 +28,9 @@ pub(crate) fn answer<R: Threads + AllocGlobal + Sync>(
     let alloc = rt.alloc();
     let reads = outside.reads.as_slice().to_vec(alloc)?;
     let writes = outside.writes.as_slice().to_vec(alloc)?;
-    let mut source = MemorySource::over(text.to_vec(alloc)?, 8, reads);
+    let mut source = MemorySource::over(text.to_vec(alloc)?, outside.pieces.max(1), reads);
     let mut sink = MemorySink::make(alloc, outside.room, writes)?;
-    let status = surge_plain(rt, words, &mut source, &mut sink, &mut OpenGate);
+    let status = surge(rt, words, &mut source, &mut sink, &mut OpenGate);
     Ok((status, sink))
 }
 

@@ -1,8 +1,8 @@
 //! Texts of one line of the table.
 use std::alloc::{AllocError, Global};
 
-/// The bytes that a piece of the table stands for: `\n`, `\r`, `\t` and `\s` stand for
-/// a line's end, a return, a tab and a blank.
+/// The bytes that a piece of the table stands for: `\n`, `\r`, `\t`, `\s` and `\0` stand for
+/// a line's end, a return, a tab, a blank and a byte of value 0.
 pub(crate) fn bytes_of(alloc: Global, piece: &str) -> Result<Vec<u8>, AllocError> {
     let mut found = Vec::new(alloc);
     let mut marked = false;
@@ -26,8 +26,29 @@ fn meant(letter: u8) -> u8 {
         b'n' => b'\n',
         b'r' => b'\r',
         b't' => b'\t',
+        b'0' => 0,
         _ => letter,
     }
+}
+
+/// A piece with a number at each `%`, and the next number at each `&`.
+pub(crate) fn numbered(alloc: Global, piece: &str, number: u64) -> Result<String, AllocError> {
+    let one = number_text(alloc, number)?;
+    let next = number_text(alloc, number.saturating_add(1))?;
+    let mut found = String::new(alloc);
+    for letter in piece.chars() {
+        match letter {
+            '%' => found.push_str(&one)?,
+            '&' => found.push_str(&next)?,
+            _ => found.push(letter)?,
+        }
+    }
+    Ok(found)
+}
+
+// A number as text.
+fn number_text(alloc: Global, number: u64) -> Result<String, AllocError> {
+    format!(in alloc; "{number}")
 }
 
 /// A word and what stands behind the blank after it.
