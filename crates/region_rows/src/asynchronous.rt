@@ -16,20 +16,21 @@ use surge_io::{MemorySink, MemorySource};
 use surge_top::{Status, surge};
 use workers::run_async;
 
+// How long each of two regions waits for the other at most.
+const TURNS: u64 = 50_000_000;
+
 // A gate at which two regions wait for each other: region 0 of strand 0, and region 2 of strand 42,
 // each for so many turns at most. It counts the entries, and which of the two saw the other come.
 #[derive(Drop)]
 struct Meeting {
-    turns: u64,
     first: AtomicU64,
     last: AtomicU64,
     met: AtomicU64,
 }
 
 impl Meeting {
-    fn new(turns: u64) -> Meeting {
+    fn new() -> Meeting {
         Meeting {
-            turns,
             first: AtomicU64::new(0),
             last: AtomicU64::new(0),
             met: AtomicU64::new(0),
@@ -39,7 +40,7 @@ impl Meeting {
     // Comes to the gate, and waits until the other has come.
     fn meet(&self, own: &AtomicU64, other: &AtomicU64) {
         own.store(1, Ordering::SeqCst);
-        for _ in 0..self.turns {
+        for _ in 0..TURNS {
             if other.load(Ordering::SeqCst) == 1 {
                 self.met.fetch_add(1, Ordering::SeqCst);
                 return;
@@ -115,9 +116,8 @@ fn written<R: Threads + Wait + AllocGlobal + Sync, G: Gate + Sync>(
 fn met<R: Threads + Wait + AllocGlobal + Sync>(
     rt: &R,
     words: &[&str],
-    turns: u64,
 ) -> Result<(Status, u64), AllocError> {
-    let mut gate = Meeting::new(turns);
+    let mut gate = Meeting::new();
     let (status, _) = written(rt, words, CHAIN, &mut gate)?;
     Ok((status, gate.met.load(Ordering::SeqCst)))
 }
@@ -126,7 +126,7 @@ fn met<R: Threads + Wait + AllocGlobal + Sync>(
 #[test]
 fn far_regions_meet_in_a_run(rt: HostRuntime) -> Result<(), Fail> {
     let words = ["surge", "run", "--workers", "2", "--slots", "4"];
-    let (status, met) = met(&rt, &words, 50_000_000)?;
+    let (status, met) = met(&rt, &words)?;
     assert_eq!(&rt; status, Status::Done);
     assert_eq!(&rt; met, 2);
     Ok(())
@@ -136,10 +136,10 @@ fn far_regions_meet_in_a_run(rt: HostRuntime) -> Result<(), Fail> {
 // long enough.
 #[test]
 fn far_regions_do_not_meet_in_rounds(rt: HostRuntime) -> Result<(), Fail> {
-    let (status, alone) = met(&rt, &["surge", "rounds", "--workers", "1"], 1_000_000)?;
+    let (status, alone) = met(&rt, &["surge", "rounds", "--workers", "1"])?;
     assert_eq!(&rt; status, Status::Done);
     assert_eq!(&rt; alone, 1);
-    let (status, beside) = met(&rt, &["surge", "rounds", "--workers", "2"], 1_000_000)?;
+    let (status, beside) = met(&rt, &["surge", "rounds", "--workers", "2"])?;
     assert_eq!(&rt; status, Status::Done);
     assert_eq!(&rt; beside, 1);
     Ok(())
