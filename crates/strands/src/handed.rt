@@ -13,7 +13,7 @@ use fronts::{Pair, Stretch};
 
 /// The points that one strand hands on to another, in order: two at each distance from the
 /// station, the earlier first.
-pub trait Block {
+pub trait Block: Copy {
     /// How many points there are.
     ghost size: { Self → ℕ };
 
@@ -46,7 +46,7 @@ pub trait Block {
 
 /// The block of a section for the station at its left or its right, over the window of so many
 /// steps after `start`.
-#[derive(Drop)]
+#[derive(Clone, Copy)]
 pub struct SectionBlock<'a> {
     pub(crate) stretch: &'a Stretch,
     pub(crate) left: bool,
@@ -108,7 +108,7 @@ impl<'a> Block for SectionBlock<'a> {
 
 /// The block of the station in place `at` of a stretch for the section at its right or its left,
 /// over the window of so many steps after `start`: the points of the station and of its triangle.
-#[derive(Drop)]
+#[derive(Clone, Copy)]
 pub struct StationBlock<'a> {
     pub(crate) stretch: &'a Stretch,
     pub(crate) right: bool,
