@@ -1,6 +1,6 @@
 -- Runs of inner places of a pipe without cavities, friction taken explicitly: what they are
 -- computed with, and values that stand for the characteristics between them.
-use Rattle.std.specs.Prelude.{◌≡◌, ◌≤◌, ◌<◌, ◌+◌, ◌*◌, ℕ, ℤ, pos, ◌+ℤ◌, ◌-ℤ◌, ◌≤ℤ◌, unsigned_abs}
+use Rattle.std.specs.Prelude.{◌≡◌, ◌≤◌, ◌<◌, ◌+◌, ◌*◌, ℕ, ℤ, pos, ◌-ℤ◌, ◌≤ℤ◌, unsigned_abs}
 use Rattle.std.specs.Prelude.{Some}
 use Rattle.fixed_num.specs.Rounding.{half_up}
 use Rattle.case_model.specs.declared.cases.Friction.TheVariants.{Explicit}

@@ -13,16 +13,22 @@ ghost use Rattle.std.specs.Prelude.{
   ◌≤ℤ◌,
   unsigned_abs,
   IfSome,
+  Some,
 };
 ghost use Rattle.fixed_num.specs.Rounding.{half_up};
+ghost use Rattle.case_model.specs.declared.cases.Friction.TheVariants.{
+  Explicit as ExplicitFriction,
+};
+ghost use Rattle.case_model.specs.Range.{IsPoint};
 ghost use Rattle.case_model.specs.Runs.{calm_point};
 ghost use Rattle.charline.specs.Characteristics.{driven_flow as driven_flow_of};
+ghost use Rattle.charline.specs.Characteristics.{IsArrival, arrive_plus, arrive_minus};
 ghost use Rattle.charline.specs.Runs.{IsPrepared, IsScaled, IsPlus, IsMinus};
 ghost use Rattle.charline.specs.Runs.{IsRise, rise_size, IsDriven, IsCalmSpot};
 
 use crate::losses::friction_head;
 use crate::quotients::impedance_head;
-use case_model::Spot;
+use case_model::{Arrival, Point, Spot};
 use fixed_num::{Reciprocal, half};
 
 // A rise of the head that is out of the range of characteristics.
@@ -89,6 +95,48 @@ impl Prepared {
         Both {
             plus: from.h + rise,
             minus: from.h - rise,
+        }
+    }
+
+    /// What leaves a point downstream, as `arrive_plus` has it; None where that is to tell.
+    pub fn plus_from(&self, from: &Point) -> Option<Arrival>
+        requires { IsPoint from.now }
+        ensures value { let p = self.now in IfSome result (λ arrival.
+            arrive_plus ExplicitFriction (pos p.b) (pos p.r) from.now ≡ Some arrival) }
+        ensures range { IfSome result IsArrival }
+    {
+        match Spot::of(from) {
+            Some(spot) => self.arrival(self.both(&spot).plus),
+            None => None,
+        }
+    }
+
+    /// What leaves a point upstream, as `arrive_minus` has it; None where that is to tell.
+    pub fn minus_from(&self, from: &Point) -> Option<Arrival>
+        requires { IsPoint from.now }
+        ensures value { let p = self.now in IfSome result (λ arrival.
+            arrive_minus ExplicitFriction (pos p.b) (pos p.r) from.now ≡ Some arrival) }
+        ensures range { IfSome result IsArrival }
+    {
+        match Spot::of(from) {
+            Some(spot) => self.arrival(self.both(&spot).minus),
+            None => None,
+        }
+    }
+
+    // What has this value, if it is in range.
+    fn arrival(&self, c: i64) -> Option<Arrival>
+        ensures value { IfSome result (λ arrival. arrival.c ≡ c) }
+        ensures impedance { IfSome result (λ arrival. arrival.b ≡ pos self.now.b) }
+        ensures range { IfSome result IsArrival }
+    {
+        if c.unsigned_abs() <= 10_000_000_000_000 {
+            Some(Arrival {
+                c,
+                b: self.b as i64,
+            })
+        } else {
+            None
         }
     }
 
