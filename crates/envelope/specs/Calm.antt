@@ -1,16 +1,15 @@
 -- Points without a cavity, as a fold takes them in.
-use Rattle.std.specs.Prelude.{◌≡◌, ◌≢◌, ℕ, ◌≤◌, ℤ, pos, ◌≤ℤ◌, Option, Some, None}
+use Rattle.std.specs.Prelude.{◌≡◌, ◌≢◌, ℕ, ◌≤◌, ℤ, ◌≤ℤ◌, Option, None}
 use Rattle.case_model.specs.declared.points.Point.{Point}
 use Rattle.case_model.specs.Samples.{Sample, point_sample}
 use Rattle.envelope.specs.Extremes.{AgreeAlong, HasExtreme, either}
 use Rattle.envelope.specs.declared.extremes.Extreme.{Extreme}
 
--- at this step a head without a volume is no new extreme, and no extreme stands first at a later
--- step
-pub record IsSettled (step : ℕ) (h : ℤ) (e : Extreme) : Type 0 where
+-- at this step a head with a volume is no new extreme, and no extreme stands first at a later step
+pub record IsSettled (step : ℕ) (h v : ℤ) (e : Extreme) : Type 0 where
   pub low : e.min ≤ℤ h
   pub high : h ≤ℤ e.max
-  pub full : pos 0 ≤ℤ e.volume
+  pub full : v ≤ℤ e.volume
   pub high_first : e.max_step ≤ step
   pub low_first : e.min_step ≤ step
   pub full_first : e.volume_step ≤ step

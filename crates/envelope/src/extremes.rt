@@ -103,14 +103,14 @@ impl Extreme {
         is_over(self.fullest(), other.fullest())
     }
 
-    // Whether a point without a cavity changes nothing at this step. An extreme of which nothing is
-    // taken has no head between its least and its greatest.
-    fn is_settled(&self, step: u64, spot: &Spot) -> bool
-        ensures { result ≡ true → IsSettled step spot.now.h self.now }
+    // Whether a sample changes nothing at this step. An extreme of which nothing is taken has no head
+    // between its least and its greatest.
+    fn is_settled(&self, step: u64, sample: &Sample) -> bool
+        ensures { result ≡ true → IsSettled step sample.now.h sample.now.v self.now }
     {
-        self.min <= spot.h
-            && spot.h <= self.max
-            && 0 <= self.volume
+        self.min <= sample.h
+            && sample.h <= self.max
+            && sample.v <= self.volume
             && self.max_step <= step
             && self.min_step <= step
             && self.volume_step <= step
@@ -178,6 +178,24 @@ pub(crate) fn join_cell(cells: &mut Vec<Extreme>, cell: usize, other: &Extreme)
     }
 }
 
+/// Joins a sample taken at a step to a cell. Mostly nothing changes, and nothing is written.
+pub(crate) fn join_sample(cells: &mut Vec<Extreme>, cell: usize, step: u64, sample: &Sample)
+    requires { cell < length cells.old.items }
+    ensures here { (f g : ℕ → Option Taken) (last : ℕ) → step ≤ last → AgreeAlong f g →
+        g step ≡ Some
+        (record { h = sample.now.h; qu = sample.now.qu; qd = sample.now.qd; v = sample.now.v }) →
+        ((s : ℕ) → s ≢ step → g s ≡ None) →
+        HasExtreme f last (slice_index_or cells.old.items cell unmet) →
+        HasExtreme (either f g) last (slice_index_or cells.new.items cell unmet) }
+    ensures others { (c : ℕ) → c ≢ cell →
+        slice_index_or cells.new.items c unmet ≡ slice_index_or cells.old.items c unmet }
+    ensures count { length cells.new.items ≡ length cells.old.items }
+{
+    if !cells[cell].is_settled(step, sample) {
+        join_cell(cells, cell, &Extreme::of_one(step, sample));
+    }
+}
+
 /// Joins points without a cavity, taken at one step, to the cells from `first` on. Mostly nothing
 /// changes, and nothing is written.
 #[inline(always)]
@@ -203,7 +221,8 @@ fn join_spot(cells: &mut [Extreme], cell: usize, step: u64, spot: &Spot)
         slice_index_or cells.new c unmet ≡ slice_index_or cells.old c unmet }
     ensures count { length cells.new ≡ length cells.old }
 {
-    if !cells[cell].is_settled(step, spot) {
+    let sample = Sample::of_spot(spot);
+    if !cells[cell].is_settled(step, &sample) {
         join_new(cells, cell, step, spot);
     }
 }

@@ -5,7 +5,7 @@ ghost use Rattle.envelope.specs.Lines.{AreWithin, IsMarked, AreLines};
 ghost use Rattle.envelope.specs.Probes.{lines_of, marks_of, places_of};
 
 use crate::cells::{count_cells, find_cell};
-use crate::extremes::{blank_cells, join_cell, join_spots};
+use crate::extremes::{blank_cells, join_cell, join_sample, join_spots};
 use crate::faults::earlier;
 use crate::probes::{Probes, join_probed, keep_probed, keep_spots, make_probes, probed_sample};
 use crate::{Extreme, Sample};
@@ -318,7 +318,7 @@ impl Fold {
             IsKeptAt self.old self.new step place (sample_of sample.now) }
         ensures layout { IsSameLayout self.old self.new }
     {
-        join_cell(&mut self.cells, cell, &Extreme::of_one(step, sample));
+        join_sample(&mut self.cells, cell, step, sample);
         keep_probed(&mut self.probes, cell, step, self.every, sample);
     }
 

@@ -17,7 +17,7 @@ pub returns-clause-kept : goal.returns-clause-kept
 returns-clause-kept c = λ place within e.
     let o = c.args.self.now in
     let bases = bases_of o.spans.items in
-    let cells = c.join_cell.new.cells.items in
+    let cells = c.join_sample.new.cells.items in
     let lines = lines_of c.keep_probed.new.probes in
     let k = c.keep_probed.ensures in
     record {
@@ -25,11 +25,11 @@ returns-clause-kept c = λ place within e.
       here = λ f g a gs gn p.
           subst (λ m. IsStanding o.spans.items bases o.steps o.every m cells lines place (either f g)) (sym k.marks)
           (standing-here o.spans.items bases o.steps o.every (marks_in o) o.cells.items cells (lines_in o) lines place c.args.cell f g e
-          (λ h. c.join_cell.ensures.here f g o.steps a h (c.of_one.ensures g o.steps c.requires.step gs gn))
+          (λ h. c.join_sample.ensures.here f g o.steps c.requires.step a gs gn h)
           (λ line q h. k.here line o.steps f g a q gs gn h)
           p);
       others = λ p w n f s.
           subst (λ m. IsStanding o.spans.items bases o.steps o.every m cells lines p f) (sym k.marks)
           (standing-elsewhere o.spans.items bases (probes_of o) o.steps o.every (marks_in o) o.cells.items cells (lines_in o) lines place c.args.cell p (length (probes_of o)) f
-          o.rising (laid-out o.spans.items o.rising) o.marked within w n e c.join_cell.ensures.others k.others s);
+          o.rising (laid-out o.spans.items o.rising) o.marked within w n e c.join_sample.ensures.others k.others s);
     }

@@ -1,0 +1,14 @@
+use Rattle.std.proofs.Common.{◌∙◌, subst}
+use Rattle.std.proofs.lemmas.List.{get_or_default}
+use Rattle.envelope.specs.Calm.{IsSettled}
+use Rattle.envelope.specs.Extremes.{unmet}
+use Rattle.envelope.proofs.Settled.{settled-sample}
+use Rattle.envelope.proofs.extremes.join_sample.Goals as goal
+
+pub returns-else-not-is_settled-clause-here : goal.returns-else-not-is_settled-clause-here
+returns-else-not-is_settled-clause-here c = λ f g last l a gs gn h.
+    let x = c.args.sample.now in
+    settled-sample c.args.step (record { h = x.h; qu = x.qu; qd = x.qd; v = x.v }) _
+    (subst (IsSettled c.args.step x.h x.v) (c.index.ensures ∙ get_or_default c.args.cells.now.items c.args.cell _ unmet c.requires)
+    (c.is_settled.ensures c.if-not-is_settled.false))
+    f g last gs gn h
