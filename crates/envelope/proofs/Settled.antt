@@ -1,14 +1,15 @@
 -- A head between the extremes, and no volume, at a step that isn't earlier than theirs: nothing
 -- changes.
-use Rattle.std.proofs.Common.{◌≡◌, ◌≢◌, ◌∙◌, ℕ, ◌+◌, ◌<◌, ◌≤◌, ◌⊎◌, inl, inr, ℤ, refl, List, length, get_or, sym, ap, subst, Option, Some, None, arith}
+use Rattle.std.proofs.Common.{◌≡◌, ◌≢◌, ◌∙◌, ℕ, ◌+◌, ◌<◌, ◌≤◌, ◌⊎◌, inl, inr, ℤ, refl, List, length, get_or, set, sym, ap, subst, Option, Some, None, arith}
 use Rattle.std.specs.Prelude.{◌≤ℤ◌, IfSome}
 use Rattle.std.proofs.lemmas.Int.{ints}
+use Rattle.std.proofs.lemmas.List.{get_or-set_same, get_or-set_other}
 use Rattle.case_model.specs.declared.points.Point.{Point}
 use Rattle.case_model.specs.declared.spots.Spot.{Spot}
 use Rattle.case_model.specs.Runs.{calm_at, calm_point}
 use Rattle.case_model.proofs.Running.{calm_spot}
 use Rattle.case_model.specs.Samples.{Sample, head_of, volume_of, IsGreatest, IsSmallest}
-use Rattle.envelope.specs.Calm.{IsSettled, Joins}
+use Rattle.envelope.specs.Calm.{AreEarly, IsEarly, IsSettled, Joins}
 use Rattle.envelope.specs.Extremes.{HasExtreme, either, unmet}
 use Rattle.envelope.specs.declared.extremes.Extreme.{Extreme}
 use Rattle.envelope.proofs.Greatest.{same-greatest, same-smallest}
@@ -72,6 +73,24 @@ settled-sample step x e k f g last gs gn p =
       greatest_volume = same-greatest (either (λ s. volume_of (f s)) (λ s. volume_of (g s))) (λ s. volume_of (either f g s)) last e.volume e.volume_step (λ s l. volume-either (f s) (g s))
           (still-greatest (λ s. volume_of (f s)) (λ s. volume_of (g s)) last e.volume x.v e.volume_step step k.full_first k.full (ap volume_of gs) (λ u n. ap volume_of (gn u n)) v.greatest_volume);
     })
+
+-- ---- no extreme stands first at a later step
+
+pub later : (step last : ℕ) (e : Extreme) → step ≤ last → IsEarly step e → IsEarly last e
+later step last e l h =
+    let high = h.high_first in
+    let low = h.low_first in
+    let full = h.full_first in
+    record { high_first = omega arith; low_first = omega arith; full_first = omega arith }
+
+pub all-later : (step last : ℕ) (cells : List Extreme) → step ≤ last → AreEarly step cells → AreEarly last cells
+all-later step last cells l h = λ c. later step last (get_or cells c unmet) l (h c)
+
+pub early-set : (last : ℕ) (cells : List Extreme) (cell : ℕ) (e : Extreme) → AreEarly last cells → cell < length cells → IsEarly last e → AreEarly last (set cells cell e)
+early-set last cells cell e h l k = λ c. elim (cases_eq c cell) [
+  | inl w ↦ subst (IsEarly last) (sym (ap (λ i. get_or (set cells cell e) i unmet) w ∙ get_or-set_same cells cell e unmet l)) k
+  | inr w ↦ subst (IsEarly last) (sym (get_or-set_other cells cell c e unmet w)) (h c)
+]
 
 -- ---- the points of a run of cells, one more
 

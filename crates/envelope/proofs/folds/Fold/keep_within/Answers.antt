@@ -1,10 +1,12 @@
-use Rattle.std.proofs.Common.{length, refl, sym, subst}
+use Rattle.std.proofs.Common.{length, refl, sym, subst, arith}
 use Rattle.envelope.specs.Cells.{bases_of}
 use Rattle.envelope.specs.Extremes.{either}
 use Rattle.envelope.specs.Folds.{probes_of}
+use Rattle.envelope.specs.Lines.{AreWithin}
 use Rattle.envelope.specs.Layout.{IsStanding, lines_in, marks_in}
 use Rattle.envelope.specs.Probes.{lines_of}
 use Rattle.envelope.proofs.Placed.{laid-out}
+use Rattle.envelope.proofs.Settled.{all-later}
 use Rattle.envelope.proofs.Standing.{in-line, line-there, standing-here, standing-elsewhere}
 use Rattle.envelope.proofs.folds.Fold.keep_within.Goals as goal
 
@@ -33,3 +35,14 @@ returns-clause-kept c = λ place within e.
           (standing-elsewhere o.spans.items bases (probes_of o) o.steps o.every (marks_in o) o.cells.items cells (lines_in o) lines place c.args.cell p (length (probes_of o)) f
           o.rising (laid-out o.spans.items o.rising) o.marked within w n e c.join_sample.ensures.others k.others s);
     }
+
+pub invariant_of-self-clause-early : goal.invariant_of-self-clause-early
+invariant_of-self-clause-early c =
+    let o = c.args.self.now in
+    let m = c.max-self.ensures in
+    c.join_sample.ensures.early c.max-self.result (omega arith) (all-later o.latest c.max-self.result o.cells.items (omega arith) o.early)
+
+pub invariant_of-self-clause-probed : goal.invariant_of-self-clause-probed
+invariant_of-self-clause-probed c =
+    let o = c.args.self.now in
+    subst (AreWithin o.spans.items) (sym c.keep_probed.ensures.places) o.probed
