@@ -1,6 +1,6 @@
 //! What arrives at a node along its pipe ends.
 ghost use Rattle.std.specs.Prelude.{◌≡◌, ◌<◌, length, if◌then◌else◌, IfSome, IsTrue, All, pos};
-ghost use Rattle.std.specs.Prelude.{Some, None};
+ghost use Rattle.std.specs.Prelude.{Some, None, true, false};
 ghost use Rattle.case_model.specs.declared.cases.Case.{Case as CaseSeen};
 ghost use Rattle.case_model.specs.declared.cases.Friction.TheVariants.{
   Explicit as ExplicitFriction,
@@ -43,36 +43,50 @@ pub(crate) fn gather(
     ensures arrivals_in { IsTrue result → All IsArrival arrivals.new }
 {
     for (i, end) in ends.iter().enumerate() {
-        match arrival_from(case, mesh, table, end, &near[i]) {
-            Some(arrival) => arrivals[i] = arrival,
-            None => return false,
+        if !put_arrival(case, mesh, table, end, &near[i], &mut arrivals[i]) {
+            return false;
         }
     }
     true
 }
 
-// What is prepared for the pipe tells it with few products.
-fn arrival_from(
+// What arrives along one end, where it is in range. Each of both calls has its own write: where they
+// share one, the processor waits for the first half of an arrival.
+#[inline(always)]
+fn put_arrival(
     case: &Case,
     mesh: &Mesh,
     table: &[PreparedPipe],
     end: &End,
     point: &Point,
-) -> Option<Arrival>
+    into: &mut Arrival,
+) -> bool
     requires coefficients { HasCoefficients mesh.now }
     requires prepared { ArePrepared case.now mesh.now table.now }
     requires end_in { end.now.pipe < length mesh.now.pipes }
     requires point_in { IsPoint point.now }
-    ensures value { result ≡ arrival_of case.now.friction mesh.now end.now point.now }
-    ensures range { IfSome result IsArrival }
+    ensures value { result ≡ true →
+        arrival_of case.now.friction mesh.now end.now point.now ≡ Some into.new }
+    ensures range { result ≡ true → IsArrival into.new }
+    ensures none { result ≡ false →
+        arrival_of case.now.friction mesh.now end.now point.now ≡ None }
 {
     match prepared_arrival(table, end, point) {
-        Some(arrival) => Some(arrival),
-        None => any_arrival(case.friction, mesh, end, point),
+        Some(arrival) => {
+            *into = arrival;
+            true
+        }
+        None => match any_arrival(case.friction, mesh, end, point) {
+            Some(arrival) => {
+                *into = arrival;
+                true
+            }
+            None => false,
+        },
     }
 }
 
-// Where what is prepared for the pipe tells it.
+// Where what is prepared for the pipe tells it, by few products.
 fn prepared_arrival(table: &[PreparedPipe], end: &End, point: &Point) -> Option<Arrival>
     requires point_in { IsPoint point.now }
     ensures value { (case : CaseSeen) (mesh : MeshSeen) → ArePrepared case mesh table.now →
