@@ -53,10 +53,15 @@ pub struct Prepared {
     twice: Reciprocal,
     // The greatest difference of two characteristics that is computed in 64 bits.
     most: i64,
+    // Twice that, and how far a head may be over `top`.
+    span: i64,
+    room: i64,
     // The friction in units of 2^-80 of 1e12 s2/m5.
     scaled: u64,
     // The greatest flow that is computed in 64 bits.
     few: u64,
+    ghost spanned: { span ≡ most +ℤ most },
+    ghost roomy: { room ≡ pos 100_000_000_000 -ℤ top },
     ghost limits: { IsPrepared b r most scaled few top twice.divisor },
 }
 
@@ -80,12 +85,15 @@ impl Prepared {
         ensures resistance { result.r ≡ r }
         ensures top { result.top ≡ top }
     {
+        let greatest = most(b);
         Prepared {
             b,
             r,
             top,
             twice: Reciprocal::of(twice(b)),
-            most: most(b),
+            most: greatest,
+            span: doubled(greatest),
+            room: over(top),
             scaled: scaled(r),
             few: few(b),
         }
@@ -162,7 +170,7 @@ impl Prepared {
         requires difference_in { unsigned_abs difference ≤ 4_000_000_000_000_000_000 }
         ensures { let p = self.now in IfSome result (IsDriven p.b p.top p.most head difference) }
     {
-        if is_small(difference, self.most) && is_head(head, self.top) {
+        if is_small(difference, self.most, self.span) && is_head(head, self.top, self.room) {
             Some(self.spot(head, difference))
         } else {
             None
@@ -284,24 +292,41 @@ fn most(b: u64) -> i64
     (2_000 * b).min(4_611_686_018) as i64
 }
 
+fn doubled(most: i64) -> i64
+    requires { unsigned_abs most ≤ 4_611_686_018 }
+    ensures { result ≡ most +ℤ most }
+{
+    most + most
+}
+
+// How far a head may be over another one.
+fn over(top: i64) -> i64
+    requires { unsigned_abs top ≤ 100_000_000_000 }
+    ensures { result ≡ pos 100_000_000_000 -ℤ top }
+{
+    100_000_000_000 - top
+}
+
 // A number up to this size: one comparison in place of two.
-fn is_small(x: i64, most: i64) -> bool
+fn is_small(x: i64, most: i64, span: i64) -> bool
     requires x_in { unsigned_abs x ≤ 4_000_000_000_000_000_000 }
     requires most_in { unsigned_abs most ≤ 4_611_686_018 }
     requires some { pos 0 ≤ℤ most }
+    requires span { span ≡ most +ℤ most }
     ensures { result ≡ true → unsigned_abs x ≤ unsigned_abs most }
 {
-    (x + most).cast_unsigned() <= (2 * most).cast_unsigned()
+    (x + most).cast_unsigned() <= span.cast_unsigned()
 }
 
 // A head from `top` on, in range.
-fn is_head(head: i64, top: i64) -> bool
+fn is_head(head: i64, top: i64, room: i64) -> bool
     requires head_in { unsigned_abs head ≤ 4_000_000_000_000_000_000 }
     requires top_in { unsigned_abs top ≤ 100_000_000_000 }
+    requires room { room ≡ pos 100_000_000_000 -ℤ top }
     ensures above { result ≡ true → top ≤ℤ head }
     ensures size { result ≡ true → unsigned_abs head ≤ 100_000_000_000 }
 {
-    (head - top).cast_unsigned() <= (100_000_000_000 - top).cast_unsigned()
+    (head - top).cast_unsigned() <= room.cast_unsigned()
 }
 
 fn narrowed(rise: i128) -> i64
