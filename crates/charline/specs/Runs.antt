@@ -1,6 +1,7 @@
 -- Runs of inner places of a pipe without cavities, friction taken explicitly: what they are
 -- computed with, and values that stand for the characteristics between them.
-use Rattle.std.specs.Prelude.{◌≡◌, ◌≤◌, ◌<◌, ◌+◌, ◌*◌, ◌%◌, ℕ, ℤ, pos, negsuc, ◌-ℤ◌, ◌≤ℤ◌, unsigned_abs}
+use Rattle.std.specs.Prelude.{◌≡◌, ◌≤◌, ◌<◌, ◌+◌, ◌*◌, ◌%◌, ℕ, ℤ, pos, negsuc}
+use Rattle.std.specs.Prelude.{◌-ℤ◌, ◌≤ℤ◌, unsigned_abs}
 use Rattle.std.specs.Prelude.{Some}
 use Rattle.case_model.specs.declared.cases.Friction.TheVariants.{Explicit}
 use Rattle.case_model.specs.declared.points.Point.{Point}
