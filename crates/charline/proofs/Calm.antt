@@ -1,11 +1,10 @@
 -- Runs of places without a cavity: signs of flows, values of characteristics, and where they meet.
-use Rattle.std.proofs.Common.{ℕ, suc, ◌*◌, ◌<◌, ◌≤◌, ◌≡◌, ap, sym, subst, refl, ◌∙◌, arith, ℤ, pos, negsuc, neg_ℤ, ◌+ℤ◌, ◌-ℤ◌, ◌≤ℤ◌, ◌<ℤ◌, unsigned_abs, Option, Some, None, IfSome, true, w64, of_z, to_z, FitsSigned}
+use Rattle.std.proofs.Common.{ℕ, ◌*◌, ◌<◌, ◌≤◌, ◌≡◌, ap, sym, subst, refl, ◌∙◌, arith, ℤ, pos, ◌+ℤ◌, ◌-ℤ◌, ◌≤ℤ◌, unsigned_abs, Option, Some, None, IfSome, true, w64, of_z, to_z, FitsSigned}
 use Rattle.std.specs.Prelude.{int_le}
 use Rattle.std.specs.Int.{w128}
 use Rattle.std.proofs.lemmas.Int.{ints, fits_signed_from_abs, to_z-of_z, to_z_pos}
 use Rattle.std.proofs.Math.IntN.{+ℤ_comm}
-use Rattle.fixed_num.specs.Rounding.{half_up, rnd}
-use Rattle.fixed_num.proofs.Between.{rnd_up, rnd_down}
+use Rattle.fixed_num.specs.Rounding.{rnd}
 use Rattle.case_model.specs.declared.cases.Friction.TheVariants.{Explicit}
 use Rattle.case_model.specs.declared.points.Point.TheVariants.{Good}
 use Rattle.case_model.specs.declared.spots.Spot.{Spot}
@@ -14,28 +13,9 @@ use Rattle.case_model.specs.declared.meshes.CavityRule.{CavityRule}
 use Rattle.case_model.specs.Range.{point_of}
 use Rattle.charline.specs.Characteristics.{impedance_head, friction_head, driven_flow, arrive_plus, arrive_minus, in_reach}
 use Rattle.charline.specs.Interior.{inner_point, meet, meet_if, meeting_head, meeting_flow, growth}
-use Rattle.charline.specs.Runs.{IsPlus, IsMinus, IsRise, IsDriven, IsCalmSpot, rise_size}
+use Rattle.charline.specs.Runs.{IsPlus, IsMinus, IsRise, IsDriven, IsCalmSpot}
 use Rattle.charline.proofs.Factors.{meet_halfway, flow_by_twice}
 use Rattle.charline.proofs.Sizes.{fits_wide}
-
-pub rise_up : (b r : ℕ) (q size : ℤ) → pos 0 ≤ℤ q → size ≡ rise_size b r (unsigned_abs q) → size ≡ impedance_head (pos b) q -ℤ friction_head (pos r) q
-unfolding impedance_head friction_head rnd
-rise_up b r (pos n) size p e = e
-rise_up b r (negsuc n) size p e = absurd (omega (arith, ints))
-
-heads_down : (b r n : ℕ) → (impedance_head (pos b) (negsuc n) -ℤ friction_head (pos r) (negsuc n)) ≡ neg_ℤ (pos (half_up (b * suc n) 1000000000)) -ℤ neg_ℤ (pos (half_up (half_up (r * suc n) 1000000000000 * suc n) 1000000000000))
-unfolding impedance_head friction_head
-heads_down b r n =
-    let some : 0 < 1000000000 = omega arith in
-    let more : 0 < 1000000000000 = omega arith in
-    rw (rnd_up (r * suc n) 1000000000000, rnd_down (b * suc n) 1000000000 some, rnd_down (half_up (r * suc n) 1000000000000 * suc n) 1000000000000 more) refl
-
-turned : (x y : ℕ) → (neg_ℤ (pos x) -ℤ neg_ℤ (pos y)) ≡ pos 0 -ℤ (pos x -ℤ pos y)
-turned x y = omega (arith, ints)
-
-pub rise_down : (b r : ℕ) (q size : ℤ) → q <ℤ pos 0 → size ≡ rise_size b r (unsigned_abs q) → (pos 0 -ℤ size) ≡ impedance_head (pos b) q -ℤ friction_head (pos r) q
-rise_down b r (pos n) size p e = absurd (omega (arith, ints))
-rise_down b r (negsuc n) size p e = ap (λ (x : ℤ). pos 0 -ℤ x) e ∙ sym (turned (half_up (b * suc n) 1000000000) (half_up (half_up (r * suc n) 1000000000000 * suc n) 1000000000000)) ∙ sym (heads_down b r n)
 
 -- a value in range is that of a characteristic
 reaches : (c : ℤ) (b : ℕ) → unsigned_abs c ≤ 10000000000000 → b ≤ 10000000000000 → in_reach c (pos b) ≡ Some (record { c = c; b = pos b })

@@ -73,3 +73,9 @@ flow_by_twice_below d x most twice b e some within few h =
 
 pub difference_fits : (d : ℤ) → unsigned_abs d ≤ 4611686018 → FitsSigned w64 (d *ℤ pos 1000000000)
 difference_fits d h = fits_signed_from_abs w64 (d *ℤ pos 1000000000) (rw (unsigned_abs-mul d (pos 1000000000)) (omega arith))
+
+-- a flow up to which a product with an impedance is below 2^62
+pub few_product : (b few : ℕ) (q : ℤ) → unsigned_abs q ≤ few → b * few < 4611686018427387904 → unsigned_abs (pos b *ℤ q) < 4611686018427387904
+few_product b few q h k =
+    let m : b * unsigned_abs q ≤ b * few = mul-le b (unsigned_abs q) b few (omega arith) h in
+    rw (unsigned_abs-mul (pos b) q) (omega arith)

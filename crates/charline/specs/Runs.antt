@@ -1,8 +1,8 @@
 -- Runs of inner places of a pipe without cavities, friction taken explicitly: what they are
 -- computed with, and values that stand for the characteristics between them.
-use Rattle.std.specs.Prelude.{◌≡◌, ◌≤◌, ◌<◌, ◌+◌, ◌*◌, ℕ, ℤ, pos, ◌+ℤ◌, ◌-ℤ◌, ◌≤ℤ◌, unsigned_abs}
+use Rattle.std.specs.Prelude.{◌≡◌, ◌≤◌, ◌<◌, ◌+◌, ◌*◌, ◌%◌, ℕ, ℤ, pos, negsuc}
+use Rattle.std.specs.Prelude.{◌-ℤ◌, ◌≤ℤ◌, unsigned_abs}
 use Rattle.std.specs.Prelude.{Some}
-use Rattle.fixed_num.specs.Rounding.{half_up}
 use Rattle.case_model.specs.declared.cases.Friction.TheVariants.{Explicit}
 use Rattle.case_model.specs.declared.points.Point.{Point}
 use Rattle.case_model.specs.declared.spots.Spot.{Spot}
@@ -30,7 +30,7 @@ pub record IsPrepared (b r : ℕ) (most : ℤ) (scaled few : ℕ) (top twice : �
   pub flow : unsigned_abs most ≤ 2_000 * b
   pub scaling : IsScaled r scaled
   pub slow : few < 2_147_483_648
-  pub product : b * few < 9_223_372_036_854_775_808
+  pub product : b * few < 4_611_686_018_427_387_904
   pub head : unsigned_abs top ≤ 100_000_000_000
   pub divisor : twice ≡ pos (2 * b)
 
@@ -46,11 +46,11 @@ pub record IsMinus (b r : ℕ) (from : Point) (c : ℤ) : Type 0 where
   pub value : unsigned_abs c ≤ 10_000_000_000_000
       → arrive_minus Explicit (pos b) (pos r) from ≡ Some (record { c = c; b = pos b })
 
--- the size of the head that a flow of this size stands for, less that which friction takes from it
-abbrev pub rise_size : ℕ → ℕ → ℕ → ℤ
-rise_size b r flow =
-    pos (half_up (b * flow) 1_000_000_000)
-    -ℤ pos (half_up (half_up (r * flow) 1_000_000_000_000 * flow) 1_000_000_000_000)
+-- a number that lies at least 128 units from a tie of 2^16 of them, where a half and 128 units are
+-- added to it
+pub record IsFarFromTie (near : ℤ) : Type 0 where
+  pub up : (n : ℕ) → near ≡ pos n → 256 ≤ n % 65_536
+  pub down : (n : ℕ) → near ≡ negsuc n → n % 65_536 < 65_280
 
 -- the head that a flow stands for less that which friction takes from it, or one out of the range
 -- of characteristics

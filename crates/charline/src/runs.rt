@@ -10,20 +10,32 @@ ghost use Rattle.std.specs.Prelude.{
   ◌≤◌,
   true,
   pos,
+  ◌+ℤ◌,
+  ◌-ℤ◌,
+  ◌*ℤ◌,
   ◌≤ℤ◌,
   unsigned_abs,
   IfSome,
+  Some,
 };
-ghost use Rattle.fixed_num.specs.Rounding.{half_up};
+ghost use Rattle.std.specs.Int.{int_shr};
+ghost use Rattle.fixed_num.specs.Reciprocals.{upper};
+ghost use Rattle.case_model.specs.declared.cases.Friction.TheVariants.{
+  Explicit as ExplicitFriction,
+};
+ghost use Rattle.case_model.specs.Range.{IsPoint};
 ghost use Rattle.case_model.specs.Runs.{calm_point};
 ghost use Rattle.charline.specs.Characteristics.{driven_flow as driven_flow_of};
+ghost use Rattle.charline.specs.Characteristics.{IsArrival, arrive_plus, arrive_minus};
 ghost use Rattle.charline.specs.Runs.{IsPrepared, IsScaled, IsPlus, IsMinus};
-ghost use Rattle.charline.specs.Runs.{IsRise, rise_size, IsDriven, IsCalmSpot};
+ghost use Rattle.charline.specs.Runs.{IsRise, IsFarFromTie, IsDriven, IsCalmSpot};
+ghost use Rattle.charline.specs.Characteristics.{impedance_head as impedance_head_of};
+ghost use Rattle.charline.specs.Characteristics.{friction_head as friction_head_of};
 
 use crate::losses::friction_head;
 use crate::quotients::impedance_head;
-use case_model::Spot;
-use fixed_num::{Reciprocal, half};
+use case_model::{Arrival, Point, Spot};
+use fixed_num::{Reciprocal, billionth, half, mulhi};
 
 // A rise of the head that is out of the range of characteristics.
 const OUT: i64 = 1_000_000_000_000_000_000;
@@ -41,10 +53,15 @@ pub struct Prepared {
     twice: Reciprocal,
     // The greatest difference of two characteristics that is computed in 64 bits.
     most: i64,
+    // Twice that, and how far a head may be over `top`.
+    span: i64,
+    room: i64,
     // The friction in units of 2^-80 of 1e12 s2/m5.
     scaled: u64,
     // The greatest flow that is computed in 64 bits.
     few: u64,
+    ghost spanned: { span ≡ most +ℤ most },
+    ghost roomy: { room ≡ pos 100_000_000_000 -ℤ top },
     ghost limits: { IsPrepared b r most scaled few top twice.divisor },
 }
 
@@ -68,12 +85,15 @@ impl Prepared {
         ensures resistance { result.r ≡ r }
         ensures top { result.top ≡ top }
     {
+        let greatest = most(b);
         Prepared {
             b,
             r,
             top,
             twice: Reciprocal::of(twice(b)),
-            most: most(b),
+            most: greatest,
+            span: doubled(greatest),
+            room: over(top),
             scaled: scaled(r),
             few: few(b),
         }
@@ -89,6 +109,48 @@ impl Prepared {
         Both {
             plus: from.h + rise,
             minus: from.h - rise,
+        }
+    }
+
+    /// What leaves a point downstream, as `arrive_plus` has it; None where that is to tell.
+    pub fn plus_from(&self, from: &Point) -> Option<Arrival>
+        requires { IsPoint from.now }
+        ensures value { let p = self.now in IfSome result (λ arrival.
+            arrive_plus ExplicitFriction (pos p.b) (pos p.r) from.now ≡ Some arrival) }
+        ensures range { IfSome result IsArrival }
+    {
+        match Spot::of(from) {
+            Some(spot) => self.arrival(self.both(&spot).plus),
+            None => None,
+        }
+    }
+
+    /// What leaves a point upstream, as `arrive_minus` has it; None where that is to tell.
+    pub fn minus_from(&self, from: &Point) -> Option<Arrival>
+        requires { IsPoint from.now }
+        ensures value { let p = self.now in IfSome result (λ arrival.
+            arrive_minus ExplicitFriction (pos p.b) (pos p.r) from.now ≡ Some arrival) }
+        ensures range { IfSome result IsArrival }
+    {
+        match Spot::of(from) {
+            Some(spot) => self.arrival(self.both(&spot).minus),
+            None => None,
+        }
+    }
+
+    // What has this value, if it is in range.
+    fn arrival(&self, c: i64) -> Option<Arrival>
+        ensures value { IfSome result (λ arrival. arrival.c ≡ c) }
+        ensures impedance { IfSome result (λ arrival. arrival.b ≡ pos self.now.b) }
+        ensures range { IfSome result IsArrival }
+    {
+        if c.unsigned_abs() <= 10_000_000_000_000 {
+            Some(Arrival {
+                c,
+                b: self.b as i64,
+            })
+        } else {
+            None
         }
     }
 
@@ -108,7 +170,7 @@ impl Prepared {
         requires difference_in { unsigned_abs difference ≤ 4_000_000_000_000_000_000 }
         ensures { let p = self.now in IfSome result (IsDriven p.b p.top p.most head difference) }
     {
-        if is_small(difference, self.most) && is_head(head, self.top) {
+        if is_small(difference, self.most, self.span) && is_head(head, self.top, self.room) {
             Some(self.spot(head, difference))
         } else {
             None
@@ -133,8 +195,8 @@ impl Prepared {
         ensures size { unsigned_abs result ≤ 1_000_000_000_000_000_000 }
         ensures value { IsRise self.now.b self.now.r q result }
     {
-        match self.quick_rise(q.unsigned_abs()) {
-            Some(size) => self.directed(size, q),
+        match self.quick_rise(q, q.unsigned_abs()) {
+            Some(rise) => rise,
             None => self.full_rise(q),
         }
     }
@@ -149,56 +211,58 @@ impl Prepared {
         narrowed(impedance_head(self.b as i64, q) as i128 - friction_head(self.r as i128, q))
     }
 
-    // A rise of this size in the direction of the flow.
-    fn directed(&self, size: i64, q: i64) -> i64
-        requires flow_in { unsigned_abs q ≤ 1_000_000_000_000 }
-        requires size_in { unsigned_abs size ≤ 1_000_000_000_000_000_000 }
-        requires value { size ≡ rise_size self.now.b self.now.r (unsigned_abs q) }
-        ensures size { unsigned_abs result ≤ 1_000_000_000_000_000_000 }
-        ensures value { IsRise self.now.b self.now.r q result }
+    // The same where few products tell it; `size` is that of the flow.
+    fn quick_rise(&self, q: i64, size: u64) -> Option<i64>
+        requires size { size ≡ unsigned_abs q }
+        ensures size { IfSome result (λ rise. unsigned_abs rise ≤ 1_000_000_000_000_000_000) }
+        ensures value { IfSome result (λ rise.
+            rise ≡ impedance_head_of (pos self.now.b) q -ℤ friction_head_of (pos self.now.r) q) }
     {
-        if q < 0 { -size } else { size }
-    }
-
-    // The size of a rise, where few products tell it.
-    fn quick_rise(&self, flow: u64) -> Option<i64>
-        ensures size { IfSome result (λ size. unsigned_abs size ≤ 1_000_000_000_000_000_000) }
-        ensures value { IfSome result (λ size. size ≡ rise_size self.now.b self.now.r flow) }
-    {
-        if flow > self.few {
+        if size > self.few {
             return None;
         }
-        match self.quick_loss(flow) {
-            Some(loss) => Some(self.quick_head(flow) as i64 - loss as i64),
+        match self.quick_loss(q, size) {
+            Some(loss) => Some(self.quick_head(q) - loss),
             None => None,
         }
     }
 
-    fn quick_head(&self, flow: u64) -> u64
-        requires { flow ≤ self.now.few }
-        ensures value { result ≡ half_up (self.now.b * flow) 1_000_000_000 }
-        ensures size { result ≤ 18_446_744_073 }
+    #[tactic(auto, unfolding(crate::specs::Characteristics::impedance_head))]
+    fn quick_head(&self, q: i64) -> i64
+        requires { unsigned_abs q ≤ self.now.few }
+        ensures value { result ≡ impedance_head_of (pos self.now.b) q }
+        ensures size { unsigned_abs result ≤ 4_611_686_018 }
     {
-        (self.product(flow) + 500_000_000) / 1_000_000_000
+        billionth(self.product(q))
     }
 
-    fn product(&self, flow: u64) -> u64
-        requires { flow ≤ self.now.few }
-        ensures value { result ≡ self.now.b * flow }
-        ensures size { result < 9_223_372_036_854_775_808 }
+    fn product(&self, q: i64) -> i64
+        requires { unsigned_abs q ≤ self.now.few }
+        ensures value { result ≡ pos self.now.b *ℤ q }
+        ensures size { unsigned_abs result < 4_611_686_018_427_387_904 }
     {
-        self.b * flow
+        self.b as i64 * q
     }
 
     // The loss is told to 72 units of 2^-16, which decides how it is rounded unless it lies that near
     // to a tie.
-    fn quick_loss(&self, flow: u64) -> Option<u64>
-        requires { flow ≤ self.now.few }
-        ensures value { IfSome result (λ loss. loss
-            ≡ half_up (half_up (self.now.r * flow) 1_000_000_000_000 * flow) 1_000_000_000_000) }
-        ensures size { IfSome result (λ loss. loss ≤ 281_474_976_710_656) }
+    fn quick_loss(&self, q: i64, size: u64) -> Option<i64>
+        requires size { size ≡ unsigned_abs q }
+        requires few { size ≤ self.now.few }
+        ensures value { IfSome result (λ loss. loss ≡ friction_head_of (pos self.now.r) q) }
+        ensures size { IfSome result (λ loss. unsigned_abs loss ≤ 281_474_976_710_656) }
     {
-        decided(upper(square(flow), self.scaled) + 32_896)
+        decided(self.near_loss(q, size))
+    }
+
+    // The loss in units of 2^-16, with a half and 128 units added.
+    fn near_loss(&self, q: i64, size: u64) -> i64
+        requires size { size ≡ unsigned_abs q }
+        requires few { size ≤ self.now.few }
+        ensures value { result ≡ upper (q *ℤ pos size) (pos self.now.scaled) +ℤ pos 32_896 }
+        ensures size { unsigned_abs result ≤ 4_611_686_018_427_420_800 }
+    {
+        mulhi(squared(q, size), self.scaled as i64) + 32_896
     }
 
     // The flow that a difference of characteristics drives through both impedances.
@@ -228,24 +292,41 @@ fn most(b: u64) -> i64
     (2_000 * b).min(4_611_686_018) as i64
 }
 
+fn doubled(most: i64) -> i64
+    requires { unsigned_abs most ≤ 4_611_686_018 }
+    ensures { result ≡ most +ℤ most }
+{
+    most + most
+}
+
+// How far a head may be over another one.
+fn over(top: i64) -> i64
+    requires { unsigned_abs top ≤ 100_000_000_000 }
+    ensures { result ≡ pos 100_000_000_000 -ℤ top }
+{
+    100_000_000_000 - top
+}
+
 // A number up to this size: one comparison in place of two.
-fn is_small(x: i64, most: i64) -> bool
+fn is_small(x: i64, most: i64, span: i64) -> bool
     requires x_in { unsigned_abs x ≤ 4_000_000_000_000_000_000 }
     requires most_in { unsigned_abs most ≤ 4_611_686_018 }
     requires some { pos 0 ≤ℤ most }
+    requires span { span ≡ most +ℤ most }
     ensures { result ≡ true → unsigned_abs x ≤ unsigned_abs most }
 {
-    (x + most).cast_unsigned() <= (2 * most).cast_unsigned()
+    (x + most).cast_unsigned() <= span.cast_unsigned()
 }
 
 // A head from `top` on, in range.
-fn is_head(head: i64, top: i64) -> bool
+fn is_head(head: i64, top: i64, room: i64) -> bool
     requires head_in { unsigned_abs head ≤ 4_000_000_000_000_000_000 }
     requires top_in { unsigned_abs top ≤ 100_000_000_000 }
+    requires room { room ≡ pos 100_000_000_000 -ℤ top }
     ensures above { result ≡ true → top ≤ℤ head }
     ensures size { result ≡ true → unsigned_abs head ≤ 100_000_000_000 }
 {
-    (head - top).cast_unsigned() <= (100_000_000_000 - top).cast_unsigned()
+    (head - top).cast_unsigned() <= room.cast_unsigned()
 }
 
 fn narrowed(rise: i128) -> i64
@@ -269,9 +350,9 @@ fn scaled(r: u64) -> u64
 fn few(b: u64) -> u64
     requires { 100_000 ≤ b }
     ensures slow { result < 2_147_483_648 }
-    ensures product { b * result < 9_223_372_036_854_775_808 }
+    ensures product { b * result < 4_611_686_018_427_387_904 }
 {
-    if b < 4_294_967_296 {
+    if b < 2_147_483_648 {
         2_147_483_647
     } else {
         few_of_many(b)
@@ -280,35 +361,30 @@ fn few(b: u64) -> u64
 
 #[cold]
 fn few_of_many(b: u64) -> u64
-    requires { 4_294_967_296 ≤ b }
+    requires { 2_147_483_648 ≤ b }
     ensures slow { result < 2_147_483_648 }
-    ensures product { b * result < 9_223_372_036_854_775_808 }
+    ensures product { b * result < 4_611_686_018_427_387_904 }
 {
-    4_611_686_018_427_387_904 / b
+    4_611_686_018_427_387_903 / b
 }
 
-fn square(flow: u64) -> u64
-    requires { flow < 2_147_483_648 }
-    ensures value { result ≡ flow * flow }
-    ensures size { result < 4_611_686_018_427_387_904 }
+// A flow by its size.
+fn squared(q: i64, size: u64) -> i64
+    requires size { size ≡ unsigned_abs q }
+    requires slow { size < 2_147_483_648 }
+    ensures value { result ≡ q *ℤ pos size }
+    ensures size { unsigned_abs result ≤ 4_611_686_018_427_387_904 }
 {
-    flow * flow
-}
-
-// The upper half of a product.
-fn upper(a: u64, b: u64) -> u64
-    ensures value { result ≡ a * b / 18_446_744_073_709_551_616 }
-    ensures size { result ≤ a }
-{
-    ((a as u128 * b as u128) >> 64) as u64
+    q * size as i64
 }
 
 // A number in units of 2^-16, with a half and 128 units added, rounded where it is not near a tie.
-fn decided(near: u64) -> Option<u64>
-    ensures { IfSome result (λ loss. (loss ≡ near / 65_536) × (256 ≤ near % 65_536)) }
+fn decided(near: i64) -> Option<i64>
+    ensures far { IfSome result (λ loss. IsFarFromTie near) }
+    ensures value { IfSome result (λ loss. loss ≡ int_shr near 16) }
 {
-    if near % 65_536 >= 256 {
-        Some(near / 65_536)
+    if near.cast_unsigned() % 65_536 >= 256 {
+        Some(near >> 16)
     } else {
         None
     }

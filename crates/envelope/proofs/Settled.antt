@@ -1,16 +1,16 @@
 -- A head between the extremes, and no volume, at a step that isn't earlier than theirs: nothing
 -- changes.
-use Rattle.std.proofs.Common.{◌≡◌, ◌≢◌, ◌∙◌, ℕ, ◌+◌, ◌<◌, ◌≤◌, ◌⊎◌, inl, inr, ℤ, refl, List, length, get_or, sym, ap, subst, Option, Some, None, arith}
-use Rattle.std.specs.Prelude.{◌≤ℤ◌, IfSome, pos}
+use Rattle.std.proofs.Common.{◌≡◌, ◌≢◌, ◌∙◌, ℕ, ◌+◌, ◌<◌, ◌≤◌, ◌⊎◌, inl, inr, ℤ, refl, List, length, get_or, set, sym, ap, subst, Option, Some, None, arith}
+use Rattle.std.specs.Prelude.{◌≤ℤ◌, IfSome}
 use Rattle.std.proofs.lemmas.Int.{ints}
+use Rattle.std.proofs.lemmas.List.{get_or-set_same, get_or-set_other}
 use Rattle.case_model.specs.declared.points.Point.{Point}
-use Rattle.case_model.specs.declared.points.Point.TheVariants.{Good}
 use Rattle.case_model.specs.declared.spots.Spot.{Spot}
 use Rattle.case_model.specs.Runs.{calm_at, calm_point}
 use Rattle.case_model.proofs.Running.{calm_spot}
-use Rattle.case_model.specs.Samples.{head_of, volume_of, IsGreatest, IsSmallest}
-use Rattle.envelope.specs.Calm.{IsSettled, Joins}
-use Rattle.envelope.specs.Extremes.{either, unmet}
+use Rattle.case_model.specs.Samples.{Sample, head_of, volume_of, IsGreatest, IsSmallest}
+use Rattle.envelope.specs.Calm.{AreEarly, IsEarly, IsSettled, Joins}
+use Rattle.envelope.specs.Extremes.{HasExtreme, either, unmet}
 use Rattle.envelope.specs.declared.extremes.Extreme.{Extreme}
 use Rattle.envelope.proofs.Greatest.{same-greatest, same-smallest}
 use Rattle.envelope.proofs.Joined.{head-either, volume-either, met}
@@ -56,8 +56,11 @@ still-smallest f g last x y s step l o e n p = record {
   first = λ u h q. p.first u h (sym (alone (f u) (g u) (n u (λ w. omega arith))) ∙ q);
 }
 
-pub settled-joins : (step : ℕ) (h q : ℤ) (e : Extreme) → IsSettled step h e → Joins e e step (Good h q q (pos 0))
-settled-joins step h q e k f g last w a gs gn p =
+pub settled-sample : (step : ℕ) (x : Sample) (e : Extreme) → IsSettled step x.h x.v e
+    → (f g : ℕ → Option Sample) (last : ℕ) → g step ≡ Some x → ((s : ℕ) → s ≢ step → g s ≡ None)
+    → HasExtreme f last e → HasExtreme (either f g) last e
+settled-sample step x e k f g last gs gn p =
+    let h : ℤ = x.h in
     let low : e.min ≤ℤ h = k.low in
     let high : h ≤ℤ e.max = k.high in
     let m : e.min ≤ℤ e.max = omega (arith, ints) in
@@ -68,8 +71,26 @@ settled-joins step h q e k f g last w a gs gn p =
       least_head = same-smallest (either (λ s. head_of (f s)) (λ s. head_of (g s))) (λ s. head_of (either f g s)) last e.min e.min_step (λ s l. head-either (f s) (g s))
           (still-smallest (λ s. head_of (f s)) (λ s. head_of (g s)) last e.min h e.min_step step k.low_first low (ap head_of gs) (λ u n. ap head_of (gn u n)) v.least_head);
       greatest_volume = same-greatest (either (λ s. volume_of (f s)) (λ s. volume_of (g s))) (λ s. volume_of (either f g s)) last e.volume e.volume_step (λ s l. volume-either (f s) (g s))
-          (still-greatest (λ s. volume_of (f s)) (λ s. volume_of (g s)) last e.volume (pos 0) e.volume_step step k.full_first k.full (ap volume_of gs) (λ u n. ap volume_of (gn u n)) v.greatest_volume);
+          (still-greatest (λ s. volume_of (f s)) (λ s. volume_of (g s)) last e.volume x.v e.volume_step step k.full_first k.full (ap volume_of gs) (λ u n. ap volume_of (gn u n)) v.greatest_volume);
     })
+
+-- ---- no extreme stands first at a later step
+
+pub later : (step last : ℕ) (e : Extreme) → step ≤ last → IsEarly step e → IsEarly last e
+later step last e l h =
+    let high = h.high_first in
+    let low = h.low_first in
+    let full = h.full_first in
+    record { high_first = omega arith; low_first = omega arith; full_first = omega arith }
+
+pub all-later : (step last : ℕ) (cells : List Extreme) → step ≤ last → AreEarly step cells → AreEarly last cells
+all-later step last cells l h = λ c. later step last (get_or cells c unmet) l (h c)
+
+pub early-set : (last : ℕ) (cells : List Extreme) (cell : ℕ) (e : Extreme) → AreEarly last cells → cell < length cells → IsEarly last e → AreEarly last (set cells cell e)
+early-set last cells cell e h l k = λ c. elim (cases_eq c cell) [
+  | inl w ↦ subst (IsEarly last) (sym (ap (λ i. get_or (set cells cell e) i unmet) w ∙ get_or-set_same cells cell e unmet l)) k
+  | inr w ↦ subst (IsEarly last) (sym (get_or-set_other cells cell c e unmet w)) (h c)
+]
 
 -- ---- the points of a run of cells, one more
 

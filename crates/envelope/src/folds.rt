@@ -1,11 +1,12 @@
 //! A fold: what is kept of the places of some spans.
 ghost use Rattle.std.specs.Prelude.{◌≡◌, ℕ, ◌+◌, ◌/◌, ◌≤◌, length, slice_index};
+ghost use Rattle.envelope.specs.Calm.{AreEarly};
 ghost use Rattle.envelope.specs.Cells.{IsRising, bases_of};
 ghost use Rattle.envelope.specs.Lines.{AreWithin, IsMarked, AreLines};
 ghost use Rattle.envelope.specs.Probes.{lines_of, marks_of, places_of};
 
 use crate::cells::{count_cells, find_cell};
-use crate::extremes::{blank_cells, join_cell, join_spots};
+use crate::extremes::{blank_cells, join_cell, join_sample, join_spots};
 use crate::faults::earlier;
 use crate::probes::{Probes, join_probed, keep_probed, keep_spots, make_probes, probed_sample};
 use crate::{Extreme, Sample};
@@ -22,12 +23,15 @@ pub struct Fold {
     every: u64,
     cells: Vec<Extreme>,
     fault: Option<(u64, u64)>,
+    // No extreme stands first at a later step.
+    latest: u64,
     ghost rising: { IsRising spans.items },
     ghost probed: { AreWithin spans.items (places_of probes) },
     ghost sampled: { 1 ≤ every },
     ghost filled: { length cells.items ≡ slice_index (bases_of spans.items) (length spans.items) },
     ghost marked: { IsMarked spans.items (bases_of spans.items) (places_of probes)
         (length (places_of probes)) (marks_of probes) },
+    ghost early: { AreEarly latest cells.items },
     ghost lined: { AreLines (length (places_of probes)) (steps / every + 1) (lines_of probes) },
 }
 
@@ -75,6 +79,7 @@ impl Fold {
             every,
             cells: blank_cells(alloc, count)?,
             fault: None,
+            latest: 0,
         })
     }
 
@@ -255,7 +260,7 @@ impl Fold {
         ensures same { IsSameFold self.old self.new }
     {
         let cell = self.cell(first);
-        join_spots(&mut self.cells, cell, step, spots);
+        self.latest = join_spots(&mut self.cells, self.latest, cell, step, spots);
         if self.probes.is_some() {
             keep_spots(&mut self.probes, cell, step, self.every, spots);
         }
@@ -318,7 +323,8 @@ impl Fold {
             IsKeptAt self.old self.new step place (sample_of sample.now) }
         ensures layout { IsSameLayout self.old self.new }
     {
-        join_cell(&mut self.cells, cell, &Extreme::of_one(step, sample));
+        join_sample(&mut self.cells, cell, step, sample);
+        self.latest = self.latest.max(step);
         keep_probed(&mut self.probes, cell, step, self.every, sample);
     }
 
@@ -357,6 +363,7 @@ impl Fold {
         let cell = find_cell(&self.spans, place);
         let from = find_cell(&other.spans, place);
         join_cell(&mut self.cells, cell, &other.cells[from]);
+        self.latest = self.latest.max(other.latest);
         join_probed(&mut self.probes, cell, &other.probes, from);
     }
 }

@@ -1,5 +1,5 @@
 //! The greater and the lesser of two values with their steps.
-ghost use Rattle.std.specs.Prelude.{◌≡◌, ℕ, ℤ, ◌≤ℤ◌, true, Option};
+ghost use Rattle.std.specs.Prelude.{◌≡◌, ℕ, ◌≤◌, ℤ, ◌≤ℤ◌, true, Option};
 ghost use Rattle.case_model.specs.Samples.{IsGreatest, IsSmallest};
 ghost use Rattle.envelope.specs.Extremes.{AgreeAlong, either};
 
@@ -14,8 +14,10 @@ pub(crate) struct Peak {
 
 /// The greater value, or of two equal ones the earlier.
 pub(crate) fn greater(a: Peak, b: Peak) -> Peak
-    ensures { (f g : ℕ → Option ℤ) (last : ℕ) → AgreeAlong f g → IsGreatest f last a.value a.step →
-        IsGreatest g last b.value b.step → IsGreatest (either f g) last result.value result.step }
+    ensures taken { (f g : ℕ → Option ℤ) (last : ℕ) → AgreeAlong f g →
+        IsGreatest f last a.value a.step → IsGreatest g last b.value b.step →
+        IsGreatest (either f g) last result.value result.step }
+    ensures early { (step : ℕ) → a.step ≤ step → b.step ≤ step → result.step ≤ step }
 {
     if b.value < a.value {
         return a;
@@ -28,8 +30,10 @@ pub(crate) fn greater(a: Peak, b: Peak) -> Peak
 
 /// The lesser value, or of two equal ones the earlier.
 pub(crate) fn lesser(a: Peak, b: Peak) -> Peak
-    ensures { (f g : ℕ → Option ℤ) (last : ℕ) → AgreeAlong f g → IsSmallest f last a.value a.step →
-        IsSmallest g last b.value b.step → IsSmallest (either f g) last result.value result.step }
+    ensures taken { (f g : ℕ → Option ℤ) (last : ℕ) → AgreeAlong f g →
+        IsSmallest f last a.value a.step → IsSmallest g last b.value b.step →
+        IsSmallest (either f g) last result.value result.step }
+    ensures early { (step : ℕ) → a.step ≤ step → b.step ≤ step → result.step ≤ step }
 {
     if a.value < b.value {
         return a;

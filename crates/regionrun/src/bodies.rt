@@ -65,7 +65,11 @@ impl Body {
         match self {
             Body::OfSection(section) => section.load(side == 0, window, start, block),
             Body::OfSeam(seam) => seam.load(side == 1, window, start, block),
-            Body::OfNode(hub) => hub.load(side, window, start, block),
+            Body::OfNode(hub) => {
+                // A block of which no one keeps the address needs no place in memory.
+                let copy = *block;
+                hub.load(side, window, start, &copy)
+            }
         }
     }
 

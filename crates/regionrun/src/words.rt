@@ -11,7 +11,7 @@ use case_model::{Point, from_words, to_words};
 use strands::Block;
 
 /// A block that is read from its words, four for each point.
-#[derive(Drop)]
+#[derive(Clone, Copy)]
 pub(crate) struct Words<'a> {
     pub(crate) words: &'a [u64],
 }

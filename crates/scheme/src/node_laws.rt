@@ -22,9 +22,11 @@ ghost use Rattle.scheme.specs.Ends.{end_points as points_of, side_one, side_two,
 ghost use Rattle.scheme.specs.Ends.{through_points};
 ghost use Rattle.scheme.specs.NodeLaws.{law_if, law_of_kind, node_law as law_of_node, sole};
 ghost use Rattle.scheme.specs.NodeLaws.{valve_of};
+ghost use Rattle.scheme.specs.Runs.{ArePrepared};
 
 use crate::arrivals::gather;
 use crate::ends::{bad_points, end_points, pass, sides};
+use crate::prepared::PreparedPipe;
 use crate::values::{cavity_rule, demand_at, head_at, opening_at, speed_at};
 use crate::vapour::node_vapour_head;
 use case_model::{Arrival, Case, CavityRule, End, MOST_ENDS, Mesh, NodeKind, NodeState, Point};
@@ -35,11 +37,13 @@ use vessels::{tank, vessel};
 
 /// A node at a step.
 #[derive(Clone, Copy)]
-pub(crate) struct NodeStep {
+pub(crate) struct NodeStep<'a> {
     /// The index of the node.
     pub(crate) node: u32,
     /// The step that is computed.
     pub(crate) step: u64,
+    /// What is prepared for the first pipes of the mesh.
+    pub(crate) table: &'a [PreparedPipe],
 }
 
 // A node as its law sees it.
@@ -49,6 +53,7 @@ struct NodeView<'a> {
     ends: &'a [End],
     step: u64,
     own: &'a NodeState,
+    table: &'a [PreparedPipe],
 }
 
 /// The state of a node at a step, of its old state and the points beside it; `points` receives the
@@ -58,27 +63,29 @@ struct NodeView<'a> {
 pub(crate) fn node_law(
     case: &Case,
     mesh: &Mesh,
-    at: NodeStep,
+    at: &NodeStep,
     own: &NodeState,
     near: &[Point],
     points: &mut [Point],
 ) -> NodeState
     requires fit { IsComputable case.now mesh.now }
-    requires on_mesh { at.node < length mesh.now.ends }
-    requires near_each { length near.now ≡ length (ends_of mesh.now at.node) }
-    requires points_each { length points.old ≡ length (ends_of mesh.now at.node) }
+    requires prepared { ArePrepared case.now mesh.now at.now.table.now }
+    requires on_mesh { at.now.node < length mesh.now.ends }
+    requires near_each { length near.now ≡ length (ends_of mesh.now at.now.node) }
+    requires points_each { length points.old ≡ length (ends_of mesh.now at.now.node) }
     requires own_in { IsState own.now }
     requires near_in { All IsPoint near.now }
     ensures state { result
-        ≡ (law_of_node case.now mesh.now at.node at.step own.now near.now).0 }
+        ≡ (law_of_node case.now mesh.now at.now.node at.now.step own.now near.now).0 }
     ensures points { points.new
-        ≡ (law_of_node case.now mesh.now at.node at.step own.now near.now).1 }
+        ≡ (law_of_node case.now mesh.now at.now.node at.now.step own.now near.now).1 }
 {
     let view = NodeView {
         kind: &case.nodes.as_slice()[at.node as usize].kind,
         ends: mesh.ends.as_slice()[at.node as usize].as_slice(),
         step: at.step,
         own,
+        table: at.table,
     };
     let hv = node_vapour_head(case, at.node);
     law_at(case, mesh, hv, &view, near, points)
@@ -94,6 +101,7 @@ fn law_at(
 ) -> NodeState
     requires read { IsRead case.now }
     requires coefficients { HasCoefficients mesh.now }
+    requires prepared { ArePrepared case.now mesh.now view.now.table.now }
     requires head_in { unsigned_abs hv ≤ 100_000_000_000 }
     requires kind_in { IsKind case.now.tables view.now.kind.now }
     requires has_ends { HasEnds view.now.kind.now view.now.ends.now }
@@ -111,7 +119,7 @@ fn law_at(
 {
     let mut arrivals = [Arrival { c: 0, b: 0 }; MOST_ENDS];
     let arrivals = &mut arrivals[..view.ends.len()];
-    if !gather(case.friction, mesh, view.ends, near, arrivals) {
+    if !gather(case, mesh, view.table, view.ends, near, arrivals) {
         bad_points(view.ends, points);
         return NodeState::Bad;
     }

@@ -99,7 +99,11 @@ impl<'a> Law for Physics<'a> {
         node_law(
             self.case,
             self.mesh,
-            NodeStep { node, step },
+            &NodeStep {
+                node,
+                step,
+                table: self.table,
+            },
             own,
             near,
             ends,

@@ -1,6 +1,8 @@
 -- What a section hands on: its points beside a station.
+use Rattle.std.specs.Int.{from_bool}
+use Rattle.std.specs.Prelude.{◌==◌}
 use Rattle.std.proofs.Common.{◌≡◌, ℕ, ◌+◌, ◌-◌, ◌/◌, ◌<◌, ◌≤◌, ◌⊎◌}
-use Rattle.std.proofs.Common.{arith, Bool, true, false}
+use Rattle.std.proofs.Common.{◌∙◌, ap, arith, refl, Bool, true, false}
 use Rattle.case_model.specs.Meaning.{Meaning}
 use Rattle.fronts.specs.Fronts.{Holds, ever, spot, tent}
 use Rattle.fronts.specs.Stretches.{count_of, kept}
@@ -10,6 +12,11 @@ use Rattle.strands.specs.declared.handed.SectionBlock.{SectionBlock}
 
 pub before-or-at : (i j : ℕ) → i < j + 1 → (i < j) ⊎ (i ≡ j)
 before-or-at i j h = grind arith
+
+-- a flag as a number
+pub flag-is : (b : Bool) → (from_bool b == 1) ≡ b
+flag-is true = refl
+flag-is false = refl
 
 -- ---- what a section has computed
 
@@ -26,18 +33,19 @@ handed law stretch false n w s j size a b h =
     (omega arith)
 
 -- the block that a section lends
-pub section-lent : (law : Meaning) (block : SectionBlock)
+pub section-lent : (law : Meaning) (block : SectionBlock) (left : Bool) → (block.left == 1) ≡ left
     → block.window + 1 ≤ count_of block.stretch.now
     → Holds law ever (tent block.start (count_of block.stretch.now - 1)) block.stretch.now
-    → HasPoints block.window (section_side law block.stretch.now block.left block.start)
+    → HasPoints block.window (section_side law block.stretch.now left block.start)
     (section_tells block)
 unfolding section_side section_tells
-section-lent law block long h =
+section-lent law block left flag long h =
     let n = count_of block.stretch.now - 1 in
     let size : count_of block.stretch.now ≡ n + 1 = omega arith in
     record {
-      each = λ j b. handed law block.stretch.now block.left n block.window block.start j size
-          (omega arith) b h;
+      each = λ j b.
+          ap (λ (z : Bool). kept block.stretch.now (block.start + (j + 1) / 2) (from_end z n (j / 2 + 1))) flag
+          ∙ handed law block.stretch.now left n block.window block.start j size (omega arith) b h;
     }
 
 pub end-within : (left : Bool) (n d : ℕ) → d ≤ n → from_end left n d ≤ n

@@ -1,4 +1,5 @@
 -- What blocks tell of two points at one distance from the station.
+use Rattle.std.specs.Prelude.{◌==◌}
 use Rattle.std.proofs.Common.{◌≡◌, ℕ, ◌+◌, ◌-◌, ◌*◌, ◌/◌, ◌<◌, ◌∙◌, ap, sym, arith}
 use Rattle.case_model.specs.declared.points.Point.{Point}
 use Rattle.fronts.specs.Stretches.{count_of, kept}
@@ -9,20 +10,20 @@ use Rattle.strands.specs.declared.handed.StationBlock.{StationBlock}
 use Rattle.strands.proofs.Loading.{step-first, step-second}
 
 pub section-read : (block : SectionBlock) (i j step : ℕ) (own told : Point) → j / 2 ≡ i → step ≡ block.start + (j + 1) / 2
-    → own ≡ kept block.stretch.now step (from_end block.left (count_of block.stretch.now - 1) (i + 1))
+    → own ≡ kept block.stretch.now step (from_end (block.left == 1) (count_of block.stretch.now - 1) (i + 1))
     → section_tells block j told → own ≡ told
 unfolding section_tells
 section-read block i j step own told half at is tells =
-    let place = λ (z : ℕ). from_end block.left (count_of block.stretch.now - 1) (z + 1) in
+    let place = λ (z : ℕ). from_end (block.left == 1) (count_of block.stretch.now - 1) (z + 1) in
     is ∙ ap (λ z. kept block.stretch.now step (place z)) (sym half)
     ∙ ap (λ z. kept block.stretch.now z (place (j / 2))) at ∙ tells
 
 pub station-read : (block : StationBlock) (i j step : ℕ) (own told : Point) → j / 2 ≡ i → step ≡ block.start + station_step block.window j
-    → own ≡ kept block.stretch.now step (beside block.right block.at i)
+    → own ≡ kept block.stretch.now step (beside (block.right == 1) block.at i)
     → station_tells block j told → own ≡ told
 unfolding station_tells
 station-read block i j step own told half at is tells =
-    let place = beside block.right block.at in
+    let place = beside (block.right == 1) block.at in
     is ∙ ap (λ z. kept block.stretch.now step (place z)) (sym half)
     ∙ ap (λ z. kept block.stretch.now z (place (j / 2))) at ∙ tells
 

@@ -1,4 +1,5 @@
 -- The blocks of a station: what it takes in, distance by distance, and what it hands on.
+use Rattle.std.specs.Prelude.{◌==◌}
 use Rattle.std.proofs.Common.{◌≡◌, ℕ, ◌+◌, ◌-◌, ◌*◌, ◌/◌, ◌<◌, ◌≤◌, inl, inr, ◌∙◌, ap, sym}
 use Rattle.std.proofs.Common.{refl, arith, subst, Bool, true, false, if◌then◌else◌}
 use Rattle.std.specs.Prelude.{◌≢◌}
@@ -268,17 +269,18 @@ inner-more law stretch right at w s j since front a b is h =
     (omega arith) (omega arith) (omega arith)
 
 -- the block that a station lends
-pub inner-lent : (law : Meaning) (block : StationBlock) (since front : ℕ → ℕ)
-    → HasBeside block.right block.at ((block.window - 1) / 2) (count_of block.stretch.now)
-    → IsTriangle block.right block.at block.window block.start since front
+pub inner-lent : (law : Meaning) (block : StationBlock) (right : Bool) (since front : ℕ → ℕ)
+    → (block.right == 1) ≡ right → HasBeside right block.at ((block.window - 1) / 2) (count_of block.stretch.now)
+    → IsTriangle right block.at block.window block.start since front
     → Holds law since front block.stretch.now
     → HasPoints block.window
-    (inner_side law block.stretch.now block.right block.at block.window block.start)
+    (inner_side law block.stretch.now right block.at block.window block.start)
     (station_tells block)
 unfolding inner_side station_tells
-inner-lent law block since front inside is h = record {
-  each = λ j b. inner-more law block.stretch.now block.right block.at block.window block.start j
-      since front inside b is h;
+inner-lent law block right since front flag inside is h = record {
+  each = λ j b.
+      ap (λ (z : Bool). kept block.stretch.now (block.start + station_step block.window j) (beside z block.at (j / 2))) flag
+      ∙ inner-more law block.stretch.now right block.at block.window block.start j since front inside b is h;
 }
 
 -- a side of a station has so many places if those at that side are there

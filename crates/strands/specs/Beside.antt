@@ -1,7 +1,7 @@
 -- Blocks beside a station: what it takes in from the section at one of its sides, and what it hands
 -- on to it.
 use Rattle.std.specs.Prelude.{◌≡◌, ℕ, ◌+◌, ◌-◌, ◌*◌, ◌/◌, ◌<◌, ◌≤◌, ◌&&◌, nat_le, nat_lt, Bool}
-use Rattle.std.specs.Prelude.{true, false, if◌then◌else◌}
+use Rattle.std.specs.Prelude.{true, false, if◌then◌else◌, ◌==◌}
 use Rattle.case_model.specs.declared.points.Point.{Point}
 use Rattle.case_model.specs.Meaning.{Meaning}
 use Rattle.fronts.specs.Bands.{from_place}
@@ -35,7 +35,7 @@ inner_side law stretch right at w s j =
 unfoldable pub station_tells : StationBlock → ℕ → Point → Type 0
 station_tells block j point =
     kept block.stretch.now (block.start + station_step block.window j)
-    (beside block.right block.at (j / 2)) ≡ point
+    (beside (block.right == 1) block.at (j / 2)) ≡ point
 
 -- place x lies on this side of place `at`, at a distance of 1 to `far`
 abbrev pub is_beside : Bool → ℕ → ℕ → ℕ → Bool

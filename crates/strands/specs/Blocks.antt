@@ -28,7 +28,7 @@ section_side law stretch left s j =
 unfoldable pub section_tells : SectionBlock → ℕ → Point → Type 0
 section_tells block j point =
     kept block.stretch.now (block.start + (j + 1) / 2)
-    (from_end block.left (count_of block.stretch.now - 1) (j / 2 + 1)) ≡ point
+    (from_end (block.left == 1) (count_of block.stretch.now - 1) (j / 2 + 1)) ≡ point
 
 -- the points of a station's block for a side, over the window of w steps from step s on: two at
 -- each distance from 0 on, the earlier first; where w is odd, the last distance has one point alone

@@ -13,6 +13,7 @@ use fronts::Stretch;
 
 /// Takes the block of a section in at the right or the left of the station in place `at`: the
 /// points beside the station, over the window of so many steps after `start`.
+#[inline(always)]
 pub fn load_beside<B: Block>(
     stretch: &mut Stretch,
     right: bool,
@@ -34,11 +35,12 @@ pub fn load_beside<B: Block>(
     if window == 2 {
         load_next(stretch, right, at, window, start, block);
     } else {
-        load_any_beside(stretch, right, at, window, start, block);
+        load_any_beside(stretch, right, at, window, start, *block);
     }
 }
 
 // The same over a window of two steps: the points next to the station.
+#[inline(always)]
 fn load_next<B: Block>(
     stretch: &mut Stretch,
     right: bool,
@@ -62,28 +64,30 @@ fn load_next<B: Block>(
     load_at(stretch, place, window, start, block, 1);
 }
 
-// The same over a window of any count of steps.
+// The same over a window of any count of steps, of a copy of the block: that of a narrow window then
+// needs no place in memory.
+#[inline(never)]
 fn load_any_beside<B: Block>(
     stretch: &mut Stretch,
     right: bool,
     at: usize,
     window: usize,
     start: u64,
-    block: &B,
+    block: B,
 )
-    requires each { B.size block.now ≡ window }
+    requires each { B.size block ≡ window }
     requires inside { HasBeside right at (half window) (count_of stretch.old) }
     requires room { start + window < 2 ^ 64 }
     ensures same { AreSamePlaces stretch.old stretch.new }
     ensures holds { (law : Meaning) (since front : ℕ → ℕ) →
-        HasPoints window (outer_side law stretch.old right at start) (B.tells block.now) →
+        HasPoints window (outer_side law stretch.old right at start) (B.tells block) →
         Holds law since front stretch.old →
         Holds law (taken_since right at start (half window) since)
         (taken_front right at window start (half window) front) stretch.new }
 {
     for distance in 1..window.div_ceil(2) + 1 {
         let place = place_beside(stretch, right, at, distance);
-        load_at(stretch, place, window, start, block, distance);
+        load_at(stretch, place, window, start, &block, distance);
     }
 }
 

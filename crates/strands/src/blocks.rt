@@ -11,6 +11,7 @@ use fronts::Stretch;
 
 /// Takes the block of a station in at the left or the right side of a section: the points of the
 /// station and of its triangle, over the window of so many steps after `start`.
+#[inline(always)]
 pub fn load_side<B: Block>(stretch: &mut Stretch, left: bool, window: usize, start: u64, block: &B)
     requires each { B.size block.now ≡ window }
     requires long { window + 1 ≤ count_of stretch.old }
@@ -25,11 +26,12 @@ pub fn load_side<B: Block>(stretch: &mut Stretch, left: bool, window: usize, sta
     if window == 2 {
         load_end(stretch, left, window, start, block);
     } else {
-        load_any_side(stretch, left, window, start, block);
+        load_any_side(stretch, left, window, start, *block);
     }
 }
 
 // The same over a window of two steps: the points of the station alone.
+#[inline(always)]
 fn load_end<B: Block>(stretch: &mut Stretch, left: bool, window: usize, start: u64, block: &B)
     requires two { window ≡ 2 }
     requires each { B.size block.now ≡ window }
@@ -46,14 +48,16 @@ fn load_end<B: Block>(stretch: &mut Stretch, left: bool, window: usize, start: u
     load_place(stretch, from_end(left, last, 0), window, start, block, 0);
 }
 
-// The same over a window of any count of steps.
-fn load_any_side<B: Block>(stretch: &mut Stretch, left: bool, window: usize, start: u64, block: &B)
-    requires each { B.size block.now ≡ window }
+// The same over a window of any count of steps, of a copy of the block: that of a narrow window then
+// needs no place in memory.
+#[inline(never)]
+fn load_any_side<B: Block>(stretch: &mut Stretch, left: bool, window: usize, start: u64, block: B)
+    requires each { B.size block ≡ window }
     requires long { window + 1 ≤ count_of stretch.old }
     requires room { start + window < 2 ^ 64 }
     ensures same { AreSamePlaces stretch.old stretch.new }
     ensures holds { (law : Meaning) (front : ℕ → ℕ) →
-        HasPoints window (station_side law stretch.old left window start) (B.tells block.now) →
+        HasPoints window (station_side law stretch.old left window start) (B.tells block) →
         IsBare left (count_of stretch.old - 1) window start front →
         Holds law ever front stretch.old →
         Holds law ever (raised left (count_of stretch.old - 1) window start front) stretch.new }
@@ -65,7 +69,7 @@ fn load_any_side<B: Block>(stretch: &mut Stretch, left: bool, window: usize, sta
             from_end(left, last, distance),
             window,
             start,
-            block,
+            &block,
             distance,
         );
     }

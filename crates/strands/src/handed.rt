@@ -1,6 +1,7 @@
 //! Blocks: the points that one strand hands on to another. Those of a strand at rest are read
 //! where they stand, in its stretch.
-ghost use Rattle.std.specs.Prelude.{◌≡◌, ℕ, ◌+◌, ◌-◌, ◌*◌, ◌/◌, ◌^◌, ◌<◌, ◌≤◌, if◌then◌else◌};
+ghost use Rattle.std.specs.Prelude.{◌≡◌, ℕ, ◌+◌, ◌-◌, ◌*◌, ◌/◌, ◌^◌, ◌<◌, ◌≤◌, ◌==◌};
+ghost use Rattle.std.specs.Prelude.{if◌then◌else◌};
 ghost use Rattle.case_model.specs.Range.{IsPoint};
 ghost use Rattle.case_model.specs.declared.points.Point.{Point as PointSeen};
 ghost use Rattle.fronts.specs.Pairs.{first_of, second_of};
@@ -13,7 +14,7 @@ use fronts::{Pair, Stretch};
 
 /// The points that one strand hands on to another, in order: two at each distance from the
 /// station, the earlier first.
-pub trait Block {
+pub trait Block: Copy {
     /// How many points there are.
     ghost size: { Self → ℕ };
 
@@ -46,10 +47,11 @@ pub trait Block {
 
 /// The block of a section for the station at its left or its right, over the window of so many
 /// steps after `start`.
-#[derive(Drop)]
+#[derive(Clone, Copy)]
 pub struct SectionBlock<'a> {
     pub(crate) stretch: &'a Stretch,
-    pub(crate) left: bool,
+    // 1 for the left and 0 for the right: after a flag a copy would have seven bytes to fill.
+    pub(crate) left: u32,
     pub(crate) window: usize,
     pub(crate) start: u64,
     ghost long: { window + 1 ≤ count_of stretch.now },
@@ -77,7 +79,7 @@ impl<'a> SectionBlock<'a> {
     {
         SectionBlock {
             stretch,
-            left,
+            left: left as u32,
             window,
             start,
         }
@@ -93,7 +95,7 @@ impl<'a> Block for SectionBlock<'a> {
 
     #[tactic(auto, unfolding(crate::specs::Blocks::section_tells))]
     fn point(&self, number: usize) -> Point {
-        let place = from_end(self.left, self.stretch.count() - 1, number / 2 + 1);
+        let place = from_end(self.left == 1, self.stretch.count() - 1, number / 2 + 1);
         let step = self.start + (number as u64).div_ceil(2);
         self.stretch.point(step, place)
     }
@@ -101,22 +103,23 @@ impl<'a> Block for SectionBlock<'a> {
     #[tactic(auto, unfolding(crate::specs::Blocks::section_tells))]
     #[inline(always)]
     fn pair(&self, index: usize) -> Pair {
-        let place = from_end(self.left, self.stretch.count() - 1, index + 1);
+        let place = from_end(self.left == 1, self.stretch.count() - 1, index + 1);
         self.stretch.pair(self.start + index as u64, place)
     }
 }
 
 /// The block of the station in place `at` of a stretch for the section at its right or its left,
 /// over the window of so many steps after `start`: the points of the station and of its triangle.
-#[derive(Drop)]
+#[derive(Clone, Copy)]
 pub struct StationBlock<'a> {
     pub(crate) stretch: &'a Stretch,
-    pub(crate) right: bool,
+    // 1 for the right and 0 for the left.
+    pub(crate) right: u32,
     pub(crate) at: usize,
     pub(crate) window: usize,
     pub(crate) start: u64,
-    ghost ahead: { at + (if right then (window - 1) / 2 else 0) < count_of stretch.now },
-    ghost behind: { (if right then 0 else (window - 1) / 2) ≤ at },
+    ghost ahead: { at + (if right == 1 then (window - 1) / 2 else 0) < count_of stretch.now },
+    ghost behind: { (if right == 1 then 0 else (window - 1) / 2) ≤ at },
     ghost room: { start + window < 2 ^ 64 },
 }
 
@@ -144,7 +147,7 @@ impl<'a> StationBlock<'a> {
     {
         StationBlock {
             stretch,
-            right,
+            right: right as u32,
             at,
             window,
             start,
@@ -161,7 +164,7 @@ impl<'a> Block for StationBlock<'a> {
 
     #[tactic(auto, unfolding(crate::specs::Beside::station_tells))]
     fn point(&self, number: usize) -> Point {
-        let place = place_beside(self.stretch, self.right, self.at, number / 2);
+        let place = place_beside(self.stretch, self.right == 1, self.at, number / 2);
         let step = self.start + step_in(self.window, number) as u64;
         self.stretch.point(step, place)
     }
@@ -169,7 +172,7 @@ impl<'a> Block for StationBlock<'a> {
     #[tactic(auto, unfolding(crate::specs::Beside::station_tells))]
     #[inline(always)]
     fn pair(&self, index: usize) -> Pair {
-        let place = place_beside(self.stretch, self.right, self.at, index);
+        let place = place_beside(self.stretch, self.right == 1, self.at, index);
         self.stretch
             .pair(self.start + (self.window - 1 - index) as u64, place)
     }

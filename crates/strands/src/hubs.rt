@@ -77,6 +77,7 @@ impl Hub {
 
     /// Takes the block of the section at one side in, over the window of so many steps after
     /// `start`. Where it is loaded already, nothing changes.
+    #[inline(never)]
     pub fn load<B: Block>(&mut self, side: usize, window: usize, start: u64, block: &B)
         requires there { side < length (spokes_of self.old) }
         requires each { B.size block.now ≡ window }
@@ -92,6 +93,7 @@ impl Hub {
 
     /// Computes the window of so many steps after `start`, of which the blocks of all sides are
     /// loaded, and notes it.
+    #[inline(never)]
     pub fn compute<L: Law>(&mut self, law: &L, window: usize, start: u64, fold: &mut Fold)
         requires some { 1 ≤ window }
         requires at { IsHubAt (L.meaning law.now) window start self.old }

@@ -44,6 +44,7 @@ pub fn advance<L: Law>(
 }
 
 /// Region 0 of a section: from the initial row to the tent over its two stations.
+#[inline(never)]
 pub fn advance_start<L: Law>(law: &L, stretch: &mut Stretch, fold: &mut Fold)
     requires line { IsLine (L.meaning law.now) stretch.old }
     requires noted { NotesInside stretch.old fold.old }
@@ -88,6 +89,7 @@ pub fn advance_region<L: Law>(
 }
 
 // A later region of a section of two reaches, over a window of two steps: it has one place.
+#[inline(never)]
 fn advance_bare_region<L: Law>(
     law: &L,
     window: usize,
@@ -113,6 +115,7 @@ fn advance_bare_region<L: Law>(
 }
 
 // A later region of a section of any count of reaches, over a window of any count of steps.
+#[inline(never)]
 fn advance_any_region<L: Law>(
     law: &L,
     window: usize,

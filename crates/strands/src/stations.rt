@@ -43,7 +43,7 @@ pub fn advance_run<L: Law>(
 }
 
 /// As `advance_run`, of one place.
-#[inline(never)]
+#[inline(always)]
 pub fn advance_place<L: Law>(
     law: &L,
     stretch: &mut Stretch,
@@ -96,6 +96,7 @@ pub fn advance_seam<L: Law>(
 }
 
 // A region of a seam over a window of two steps: its triangles have no places.
+#[inline(never)]
 fn advance_bare_seam<L: Law>(
     law: &L,
     window: usize,
@@ -119,6 +120,7 @@ fn advance_bare_seam<L: Law>(
 }
 
 // A region of a seam over a window of any count of steps.
+#[inline(never)]
 fn advance_any_seam<L: Law>(
     law: &L,
     window: usize,

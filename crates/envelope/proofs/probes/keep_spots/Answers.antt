@@ -1,4 +1,4 @@
-use Rattle.std.proofs.Common.{◌≡◌, ◌≢◌, ◌∙◌, ◌+◌, ◌<◌, ℕ, refl, sym, ap, get_or, length, None, Some, arith}
+use Rattle.std.proofs.Common.{◌∙◌, ◌+◌, refl, sym, ap, get_or, None, arith}
 use Rattle.envelope.specs.Probes.{lines_of, marks_of}
 use Rattle.envelope.proofs.SpotLines.{kept-more, none-kept, room-still}
 use Rattle.envelope.proofs.probes.keep_spots.Goals as goal

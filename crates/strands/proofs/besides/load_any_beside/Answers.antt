@@ -33,6 +33,6 @@ loop-distance-preserved g c =
           subst (λ i. Holds law (taken_since right at s i since) (taken_front right at w s i front)
           c.load_at.new.stretch) e
           (c.load_at.ensures.holds law right at since front has c.place_beside-place.ensures.place
-          (same-outer law old mid right at w s (g.B.Block.tells c.args.block.now) inv points)
+          (same-outer law old mid right at w s (g.B.Block.tells c.args.block) inv points)
           (c.loop-distance.invariant.holds law since front points h));
     }

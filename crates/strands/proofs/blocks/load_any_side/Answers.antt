@@ -40,7 +40,7 @@ loop-distance-preserved g c =
       holds = λ law front points bare h.
           c.load_place.ensures.holds law c.args.left n front size (omega (arith, c.requires.long))
           (c.from_end.ensures ∙ ap (λ z. from_end c.args.left z c.loop-distance.distance) last)
-          (same-points law old mid c.args.left c.args.window c.args.start (g.B.Block.tells c.args.block.now) inv points) bare
+          (same-points law old mid c.args.left c.args.window c.args.start (g.B.Block.tells c.args.block) inv points) bare
           (c.loop-distance.invariant.holds law front points bare h);
     }
 

@@ -1,10 +1,12 @@
-use Rattle.std.proofs.Common.{length, refl, sym, subst}
+use Rattle.std.proofs.Common.{length, refl, sym, subst, arith}
 use Rattle.envelope.specs.Cells.{bases_of}
 use Rattle.envelope.specs.Extremes.{either}
 use Rattle.envelope.specs.Folds.{probes_of}
+use Rattle.envelope.specs.Lines.{AreWithin}
 use Rattle.envelope.specs.Layout.{IsStanding, lines_in, marks_in}
 use Rattle.envelope.specs.Probes.{lines_of}
 use Rattle.envelope.proofs.Placed.{laid-out}
+use Rattle.envelope.proofs.Settled.{all-later}
 use Rattle.envelope.proofs.Standing.{in-line, line-there, standing-here, standing-elsewhere}
 use Rattle.envelope.proofs.folds.Fold.keep_within.Goals as goal
 
@@ -17,7 +19,7 @@ pub returns-clause-kept : goal.returns-clause-kept
 returns-clause-kept c = λ place within e.
     let o = c.args.self.now in
     let bases = bases_of o.spans.items in
-    let cells = c.join_cell.new.cells.items in
+    let cells = c.join_sample.new.cells.items in
     let lines = lines_of c.keep_probed.new.probes in
     let k = c.keep_probed.ensures in
     record {
@@ -25,11 +27,22 @@ returns-clause-kept c = λ place within e.
       here = λ f g a gs gn p.
           subst (λ m. IsStanding o.spans.items bases o.steps o.every m cells lines place (either f g)) (sym k.marks)
           (standing-here o.spans.items bases o.steps o.every (marks_in o) o.cells.items cells (lines_in o) lines place c.args.cell f g e
-          (λ h. c.join_cell.ensures.here f g o.steps a h (c.of_one.ensures g o.steps c.requires.step gs gn))
+          (λ h. c.join_sample.ensures.here f g o.steps c.requires.step a gs gn h)
           (λ line q h. k.here line o.steps f g a q gs gn h)
           p);
       others = λ p w n f s.
           subst (λ m. IsStanding o.spans.items bases o.steps o.every m cells lines p f) (sym k.marks)
           (standing-elsewhere o.spans.items bases (probes_of o) o.steps o.every (marks_in o) o.cells.items cells (lines_in o) lines place c.args.cell p (length (probes_of o)) f
-          o.rising (laid-out o.spans.items o.rising) o.marked within w n e c.join_cell.ensures.others k.others s);
+          o.rising (laid-out o.spans.items o.rising) o.marked within w n e c.join_sample.ensures.others k.others s);
     }
+
+pub invariant_of-self-clause-early : goal.invariant_of-self-clause-early
+invariant_of-self-clause-early c =
+    let o = c.args.self.now in
+    let m = c.max-self.ensures in
+    c.join_sample.ensures.early c.max-self.result (omega arith) (all-later o.latest c.max-self.result o.cells.items (omega arith) o.early)
+
+pub invariant_of-self-clause-probed : goal.invariant_of-self-clause-probed
+invariant_of-self-clause-probed c =
+    let o = c.args.self.now in
+    subst (AreWithin o.spans.items) (sym c.keep_probed.ensures.places) o.probed

@@ -1,9 +1,13 @@
-use Rattle.std.proofs.Common.{refl, sym, subst}
+use Rattle.std.proofs.Common.{◌∙◌, refl, sym, subst, arith}
+use Rattle.std.proofs.lemmas.List.{get_or_default}
+use Rattle.envelope.specs.Calm.{IsEarly}
 use Rattle.envelope.specs.Cells.{bases_of}
-use Rattle.envelope.specs.Extremes.{either}
+use Rattle.envelope.specs.Extremes.{either, unmet}
+use Rattle.envelope.specs.Lines.{AreWithin}
 use Rattle.envelope.specs.Layout.{IsStanding}
 use Rattle.envelope.specs.Probes.{lines_of}
 use Rattle.envelope.proofs.Merged.{cell-filled, cell-found, more-there, place-joined, place-kept, same-width}
+use Rattle.envelope.proofs.Settled.{all-later, later}
 use Rattle.envelope.proofs.Standing.{line-there}
 use Rattle.envelope.proofs.folds.Fold.merge_place.Goals as goal
 
@@ -45,3 +49,19 @@ returns c =
           subst (λ n. IsStanding o.spans.items (bases_of o.spans.items) o.steps o.every n cells lines k f) (sym j.marks)
           (place-kept o r cells lines place cell k f m c.requires.within e c.join_cell.ensures.others j.others w d s);
     }
+
+pub invariant_of-self-clause-early : goal.invariant_of-self-clause-early
+invariant_of-self-clause-early c =
+    let o = c.args.self.now in
+    let r = c.args.other.now in
+    let from = c.find_cell-from.result in
+    let m = c.max-self.ensures in
+    let last = c.max-self.result in
+    let l = cell-filled r _ from c.deref-2.ensures.value c.find_cell-from.ensures.inside in
+    c.join_cell.ensures.early last (all-later o.latest last o.cells.items (omega arith) o.early)
+    (subst (IsEarly last) (sym (c.index.ensures ∙ get_or_default r.cells.items from _ unmet l)) (later r.latest last _ (omega arith) (r.early from)))
+
+pub invariant_of-self-clause-probed : goal.invariant_of-self-clause-probed
+invariant_of-self-clause-probed c =
+    let o = c.args.self.now in
+    subst (AreWithin o.spans.items) (sym c.join_probed.ensures.places) o.probed

@@ -1,3 +1,4 @@
+use Rattle.std.specs.Prelude.{◌==◌}
 use Rattle.std.proofs.Common.{◌∙◌, ◌+◌, ◌-◌, ◌*◌, ◌/◌, ap, arith}
 use Rattle.fronts.specs.Stretches.{count_of, kept}
 use Rattle.fronts.specs.Pairs.{first_of, second_of}
@@ -8,7 +9,7 @@ use Rattle.strands.proofs.handed.StationBlockBlock.pair.Goals as goal
 pub place_beside-place-requires : goal.place_beside-place-requires
 place_beside-place-requires c =
     let block = c.args.self.now in
-    has-beside block.right block.at ((block.window - 1) / 2) (count_of block.stretch.now)
+    has-beside (block.right == 1) block.at ((block.window - 1) / 2) (count_of block.stretch.now)
     c.args.index block.ahead block.behind (omega (arith, c.requires.there))
 
 pub returns-clause-first : goal.returns-clause-first
