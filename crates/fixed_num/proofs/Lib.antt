@@ -11,3 +11,4 @@ pub mod Widths
 pub mod Spellings
 pub mod Orders
 pub mod Fits
+pub mod RootSteps

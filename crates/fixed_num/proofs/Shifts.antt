@@ -1,5 +1,5 @@
 -- Reciprocals as they are worked out in words.
-use Rattle.std.proofs.Common.{ℕ, suc, ◌+◌, ◌-◌, ◌*◌, ◌/◌, ◌%◌, ◌^◌, ◌<◌, ◌≤◌, ◌≡◌, arith, rules, ℤ, pos, negsuc, ◌+ℤ◌, ◌*ℤ◌, ◌≤ℤ◌, unsigned_abs, w64, to_z, of_z, FitsSigned, inl, inr}
+use Rattle.std.proofs.Common.{ℕ, suc, ◌+◌, ◌-◌, ◌*◌, ◌/◌, ◌%◌, ◌^◌, ◌<◌, ◌≤◌, ◌≡◌, arith, rules, ℤ, pos, negsuc, ◌+ℤ◌, ◌*ℤ◌, ◌≤ℤ◌, unsigned_abs, w64, to_z, of_z, FitsSigned, inl, inr, refl}
 use Rattle.std.specs.Int.{w128}
 use Rattle.std.specs.Int.Count.{count_leading_zeros}
 use Rattle.std.specs.Int.Signed.{shr_z}
@@ -17,7 +17,7 @@ upper_is a b f g =
     let t : FitsSigned w128 (shr_z (a *ℤ b) 18446744073709551616) = search rules in
     rw (wide_product a b f g, to_z-of_z w128 (shr_z (a *ℤ b) 18446744073709551616) t) (to_z-of_z w64 (shr_z (a *ℤ b) 18446744073709551616) s)
 
-one_shifted : (k : ℕ) → k ≤ 60 → to_z w64 (1 * 2 ^ k % 18446744073709551616) ≡ pos (2 ^ k)
+pub one_shifted : (k : ℕ) → k ≤ 60 → to_z w64 (1 * 2 ^ k % 18446744073709551616) ≡ pos (2 ^ k)
 one_shifted k h =
     let p : 2 ^ k < 2 ^ 61 = pow_below k 61 (omega arith) in
     let e : 1 * 2 ^ k % 18446744073709551616 ≡ 2 ^ k = omega arith in
@@ -28,15 +28,22 @@ half_added x k small h =
     let p : 2 ^ k < 2 ^ 61 = pow_below k 61 (omega arith) in
     fits_signed_from_abs w64 (x +ℤ pos (2 ^ k)) (omega (arith, ints))
 
-pub sum_fits : (x : ℤ) (k : ℕ) → FitsSigned w64 x → unsigned_abs x < 4611686018427387904 → k ≤ 60 → FitsSigned w64 (to_z w64 (of_z w64 x) +ℤ to_z w64 (1 * 2 ^ k % 18446744073709551616))
-sum_fits x k f small h = rw (to_z-of_z w64 x f, one_shifted k h) (half_added x k small h)
+sum_in : (x middle : ℤ) (places : ℕ) → unsigned_abs x < 4611686018427387904 → 1 ≤ places → places ≤ 61 → middle ≡ pos (2 ^ (places - 1)) → FitsSigned w64 (x +ℤ middle)
+sum_in x m p small some few e = rw e (half_added x (p - 1) small (omega arith))
 
-pub shift_is : (x : ℤ) (k : ℕ) → FitsSigned w64 x → unsigned_abs x < 4611686018427387904 → k ≤ 60
-    → to_z w64 (of_z w64 (shr_z (to_z w64 (of_z w64 (to_z w64 (of_z w64 x) +ℤ to_z w64 (1 * 2 ^ k % 18446744073709551616)))) (2 ^ (k + 1)))) ≡ shr_z (x +ℤ pos (2 ^ k)) (2 ^ (k + 1))
-shift_is x k f small h =
-    let s : FitsSigned w64 (x +ℤ pos (2 ^ k)) = half_added x k small h in
-    let t : FitsSigned w64 (shr_z (x +ℤ pos (2 ^ k)) (2 ^ (k + 1))) = search rules in
-    rw (to_z-of_z w64 x f, one_shifted k h, to_z-of_z w64 (x +ℤ pos (2 ^ k)) s) (to_z-of_z w64 (shr_z (x +ℤ pos (2 ^ k)) (2 ^ (k + 1))) t)
+pub sum_fits : (x middle : ℤ) (places : ℕ) → FitsSigned w64 x → FitsSigned w64 middle → unsigned_abs x < 4611686018427387904 → 1 ≤ places → places ≤ 61 → middle ≡ pos (2 ^ (places - 1))
+    → FitsSigned w64 (to_z w64 (of_z w64 x) +ℤ to_z w64 (of_z w64 middle))
+sum_fits x m p f g small some few e = rw (to_z-of_z w64 x f, to_z-of_z w64 m g) (sum_in x m p small some few e)
+
+shift_in : (x middle : ℤ) (places : ℕ) → 1 ≤ places → middle ≡ pos (2 ^ (places - 1)) → shr_z (x +ℤ middle) (2 ^ places) ≡ shr_z (x +ℤ pos (2 ^ (places - 1))) (2 ^ (places - 1 + 1))
+shift_in x m p some e = let f : p - 1 + 1 ≡ p = omega arith in rw (e, f) refl
+
+pub shift_is : (x middle : ℤ) (places : ℕ) → FitsSigned w64 x → FitsSigned w64 middle → unsigned_abs x < 4611686018427387904 → 1 ≤ places → places ≤ 61 → middle ≡ pos (2 ^ (places - 1))
+    → to_z w64 (of_z w64 (shr_z (to_z w64 (of_z w64 (to_z w64 (of_z w64 x) +ℤ to_z w64 (of_z w64 middle)))) (2 ^ places))) ≡ shr_z (x +ℤ pos (2 ^ (places - 1))) (2 ^ (places - 1 + 1))
+shift_is x m p f g small some few e =
+    let s : FitsSigned w64 (x +ℤ m) = sum_in x m p small some few e in
+    let t : FitsSigned w64 (shr_z (x +ℤ m) (2 ^ p)) = search rules in
+    rw (to_z-of_z w64 x f, to_z-of_z w64 m g, to_z-of_z w64 (x +ℤ m) s) (rw (to_z-of_z w64 (shr_z (x +ℤ m) (2 ^ p)) t) (shift_in x m p some e))
 
 -- what the leading zeros of the number before a divisor tell
 pub record IsScale (d zeros j : ℕ) : Type 0 where

@@ -1,12 +1,11 @@
 -- Which texts spell a number, and which number it is.
-use Rattle.std.proofs.Common.{inl, inr, ℕ, ◌+◌, ◌-◌, ◌*◌, ◌^◌, ◌<◌, ◌≡◌, ◌⊎◌, ◌==◌, ◌&&◌, nat_lt, Bool, true, false, cond, ℤ, pos, neg_ℤ, List, [], ◌∷◌, ◌++◌, length, drop, get_or, Result, Ok, Err, refl, sym, ap, ◌∙◌, arith}
+use Rattle.std.proofs.Common.{inl, inr, ℕ, ◌+◌, ◌^◌, ◌<◌, ◌≡◌, ◌⊎◌, ◌==◌, ◌&&◌, nat_lt, Bool, true, false, cond, ℤ, pos, neg_ℤ, List, [], ◌∷◌, ◌++◌, length, get_or, Ok, Err, refl, sym, ap, ◌∙◌, arith}
 use Rattle.std.proofs.lemmas.List.{append-nil, append_assoc, length-drop}
 use Rattle.std.proofs.lemmas.List.Sums.{split_at_first, passes_at_first}
 use Rattle.std.proofs.lemmas.Bool.{and_parts, eqb-true, ltb-true}
 use Rattle.std.specs.List.{list_all, position_or_len, before_first, after_first}
 use Rattle.std.specs.Char.{is_ascii_digit}
-use Rattle.fixed_num.specs.Decimal.{digits_number, is_point, are_digits, sized, size_of, signed_by, number_of}
-use Rattle.fixed_num.specs.declared.decimal.NumberFault.{NumberFault}
+use Rattle.fixed_num.specs.Decimal.{is_point, are_digits, sized, size_of, signed_by, number_of}
 use Rattle.fixed_num.specs.declared.decimal.NumberFault.TheVariants.{Spelling, Places, Large}
 use Rattle.fixed_num.specs.Spelled.{IsTail, IsSpelled, HasSpelling, signed, size_in, spelled_number}
 use Rattle.fixed_num.proofs.Back.{no_sign, before_point, after_point, not_digits}

@@ -1,11 +1,11 @@
 -- How long the text of a number is at most.
-use Rattle.std.proofs.Common.{ℕ, ℤ, zero, suc, ◌+◌, ◌-◌, ◌*◌, ◌/◌, ◌^◌, ◌<◌, ◌≤◌, ◌≡◌, ◌++◌, length, length-append, arith, refl, ap, subst}
+use Rattle.std.proofs.Common.{ℕ, ℤ, zero, suc, ◌+◌, ◌-◌, ◌*◌, ◌/◌, ◌^◌, ◌<◌, ◌≤◌, ◌≡◌, ◌++◌, length, length-append, arith, subst}
 use Rattle.std.specs.Prelude.{pos, negsuc, unsigned_abs}
 use Rattle.std.specs.Fmt.{decimal}
 use Rattle.std.proofs.lemmas.Fmt.{length-decimal-le_wide}
 use Rattle.std.proofs.lemmas.Nat.{div_below, pow-add}
 use Rattle.std.proofs.Math.Nat.{div-le_self, one-le-pow}
-use Rattle.fixed_num.specs.Written.{last_digits, sign, fraction_text, written}
+use Rattle.fixed_num.specs.Written.{sign, fraction_text, written}
 use Rattle.fixed_num.proofs.Texts.{length-last_digits}
 
 short_sign : (z : ℤ) → length (sign z) ≤ 1

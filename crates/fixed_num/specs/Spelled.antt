@@ -1,5 +1,5 @@
 -- Texts that spell numbers: a sign or none, digits, and perhaps a point with digits.
-use Rattle.std.specs.Prelude.{ℕ, ℤ, pos, neg_ℤ, ◌+◌, ◌-◌, ◌*◌, ◌^◌, ◌==◌, ◌≡◌, ◌⊎◌, nat_lt}
+use Rattle.std.specs.Prelude.{ℕ, ℤ, pos, neg_ℤ, ◌-◌, ◌*◌, ◌^◌, ◌==◌, ◌≡◌, ◌⊎◌, nat_lt}
 use Rattle.std.specs.Prelude.{if◌then◌else◌, true, List, [], ◌∷◌, ◌++◌, length, Result, Ok, Err}
 use Rattle.fixed_num.specs.Decimal.{are_digits, digits_number}
 use Rattle.fixed_num.specs.declared.decimal.NumberFault.{NumberFault}

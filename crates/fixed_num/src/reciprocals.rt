@@ -2,6 +2,7 @@
 ghost use Rattle.std.specs.Prelude.{
   ◌≡◌,
   ◌+◌,
+  ◌-◌,
   ◌*◌,
   ◌%◌,
   ◌^◌,
@@ -20,8 +21,12 @@ pub struct Reciprocal {
     /// The divisor.
     pub divisor: i64,
     factor: i64,
-    shift: u32,
-    ghost exact: { IsReciprocal divisor factor shift },
+    // What a product is shifted by, and half a unit of what is left.
+    places: u32,
+    middle: i64,
+    ghost some: { 1 ≤ places },
+    ghost middling: { middle ≡ pos (2 ^ (places - 1)) },
+    ghost exact: { IsReciprocal divisor factor (places - 1) },
 }
 
 impl Reciprocal {
@@ -36,7 +41,8 @@ impl Reciprocal {
         Reciprocal {
             divisor,
             factor: factor(divisor as u64, shift) as i64,
-            shift,
+            places: shift + 1,
+            middle: middle(shift),
         }
     }
 
@@ -47,7 +53,7 @@ impl Reciprocal {
         ensures size { let d = unsigned_abs self.now.divisor in
             2 * unsigned_abs result * d ≤ 2 * unsigned_abs x + d }
     {
-        rounded_shift(mulhi(x, self.factor), self.shift)
+        rounded_shift(mulhi(x, self.factor), self.middle, self.places)
     }
 }
 
@@ -57,7 +63,7 @@ pub fn billionth(x: i64) -> i64
     ensures value { result ≡ rounded x (pos 1_000_000_000) }
     ensures size { unsigned_abs result ≤ 4_611_686_018 }
 {
-    rounded_shift(mulhi(x, 4_951_760_157_141_521_100), 27)
+    rounded_shift(mulhi(x, 4_951_760_157_141_521_100), 134_217_728, 28)
 }
 
 /// A half of a number, rounded to the nearest, a half away from zero.
@@ -81,12 +87,22 @@ pub fn mulhi(a: i64, b: i64) -> i64
 }
 
 #[tactic(auto, unfolding(crate::specs::Reciprocals::shifted_half_up))]
-fn rounded_shift(x: i64, shift: u32) -> i64
+fn rounded_shift(x: i64, middle: i64, places: u32) -> i64
     requires number { unsigned_abs x < 4_611_686_018_427_387_904 }
-    requires shift { shift ≤ 60 }
-    ensures { result ≡ shifted_half_up x shift }
+    requires some { 1 ≤ places }
+    requires few { places ≤ 61 }
+    requires middle { middle ≡ pos (2 ^ (places - 1)) }
+    ensures { result ≡ shifted_half_up x (places - 1) }
 {
-    (x + (1 << shift)) >> (shift + 1)
+    (x + middle) >> places
+}
+
+// Half a unit of a shift by one place more.
+fn middle(shift: u32) -> i64
+    requires { shift ≤ 60 }
+    ensures { result ≡ pos (2 ^ shift) }
+{
+    1 << shift
 }
 
 // The divisor is over 2^(shift + 2), and at most twice that.

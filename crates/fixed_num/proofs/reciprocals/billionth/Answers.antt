@@ -1,6 +1,4 @@
 use Rattle.std.proofs.Common.{arith, to_z-of_z, pos}
-use Rattle.std.proofs.lemmas.Int.{ints}
-use Rattle.fixed_num.specs.Reciprocals.{IsReciprocal}
 use Rattle.fixed_num.proofs.Nearest.{size}
 use Rattle.fixed_num.proofs.Inverses.{divided_is, billion}
 use Rattle.fixed_num.proofs.reciprocals.billionth.Goals as goal
