@@ -1,3 +1,4 @@
+pub mod Raised
 pub mod Quotients
 pub mod MoreArrivals
 pub mod States
