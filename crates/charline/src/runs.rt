@@ -144,6 +144,7 @@ impl Prepared {
         requires { IsPoint from.now }
         ensures value { let p = self.now in IfSome result (λ arrival.
             arrive_plus ExplicitFriction (pos p.b) (pos p.r) from.now ≡ Some arrival) }
+        ensures impedance { IfSome result (λ arrival. arrival.b ≡ pos self.now.b) }
         ensures range { IfSome result IsArrival }
     {
         match Spot::of(from) {
@@ -157,6 +158,7 @@ impl Prepared {
         requires { IsPoint from.now }
         ensures value { let p = self.now in IfSome result (λ arrival.
             arrive_minus ExplicitFriction (pos p.b) (pos p.r) from.now ≡ Some arrival) }
+        ensures impedance { IfSome result (λ arrival. arrival.b ≡ pos self.now.b) }
         ensures range { IfSome result IsArrival }
     {
         match Spot::of(from) {

@@ -1,3 +1,4 @@
+pub mod Calm
 pub mod Raised
 pub mod Quotients
 pub mod MoreArrivals

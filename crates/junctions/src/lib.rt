@@ -11,4 +11,4 @@ mod sums;
 
 pub use laws::{junction, level, reservoir};
 pub use levels::{bad_state, filled, state_at, state_with_flows};
-pub use sums::{weighted_sums, write_inflows};
+pub use sums::{weighted, weighted_sums, write_inflows};
