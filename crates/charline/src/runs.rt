@@ -305,6 +305,7 @@ impl Prepared {
     }
 }
 
+// The inverse of an impedance, in 1e-16 m2/s.
 fn inverse(b: u64) -> i64
     requires low { 100_000 ≤ b }
     requires high { b ≤ 10_000_000_000_000 }

@@ -138,8 +138,8 @@ fn junction_head(demand: i64, arrivals: &[Arrival]) -> i64
     level(demand, heads, weights)
 }
 
-/// The head (1e-6 m) of a junction with a demand (1e-9 m3/s), by the sums over what arrives of value
-/// times weight and of the weights.
+/// The head (1e-6 m) of a junction with a demand (1e-9 m3/s), by the sums over what arrives: that of
+/// value times weight, and that of the weights.
 pub fn level(demand: i64, heads: i128, weights: i128) -> i64
     requires demand_in { IsFlow demand }
     requires low { pos 1_000_000_000 ≤ℤ weights }

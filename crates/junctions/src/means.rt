@@ -26,6 +26,7 @@ fn mean_by(heads: i128, weight: u64) -> i64
     lowered(quotient(raised(heads, weight), weight))
 }
 
+// The heads twice, raised by so many weights that they are not below 0.
 fn raised(heads: i128, weight: u64) -> u128
     requires low { 1 ≤ weight }
     requires high { weight ≤ 1_600_000_000_000_000_000 }
@@ -44,6 +45,7 @@ fn twice(x: i128) -> i128
     if x < 0 { 2 * x - 1 } else { 2 * x }
 }
 
+// By twice the weight.
 fn quotient(n: u128, weight: u64) -> u64
     requires some { 1 ≤ weight }
     requires few { weight ≤ 1_600_000_000_000_000_000 }
@@ -54,6 +56,7 @@ fn quotient(n: u128, weight: u64) -> u64
     (n / (2 * weight) as u128) as u64
 }
 
+// What was added is taken back.
 fn lowered(x: u64) -> i64
     requires { x < 36_028_797_018_963_968 }
     ensures { result ≡ pos x -ℤ pos 18_014_398_509_481_984 }

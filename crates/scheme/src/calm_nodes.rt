@@ -1,6 +1,6 @@
 //! Junctions of few ends that have no cavity and get none, by what is prepared for their pipes.
-ghost use Rattle.std.specs.Prelude.{◌≡◌, ◌<◌, ◌≤◌, ◌*◌, ◌*ℤ◌, ◌≤ℤ◌, pos, unsigned_abs, true, length};
-ghost use Rattle.std.specs.Prelude.{◌+ℤ◌, All, IfSome, Some};
+ghost use Rattle.std.specs.Prelude.{◌≡◌, ◌<◌, ◌≤◌, ◌*◌, ◌+ℤ◌, ◌≤ℤ◌, pos, unsigned_abs, true, length};
+ghost use Rattle.std.specs.Prelude.{All, IfSome, Some};
 ghost use Rattle.std.specs.List.{list_all};
 ghost use Rattle.case_model.specs.Limits.{IsFlow, IsKind, IsRead};
 ghost use Rattle.case_model.specs.Range.{IsPoint};
@@ -93,6 +93,7 @@ pub(crate) fn calm_law(
     }
 }
 
+// Whether a node has no cavity.
 fn is_closed(own: &NodeState) -> bool
     ensures { result ≡ is_closed_state own.now }
 {
@@ -102,6 +103,7 @@ fn is_closed(own: &NodeState) -> bool
     }
 }
 
+// A junction that has no cavity, where it gets none.
 #[inline(always)]
 fn calm_junction(
     case: &Case,
@@ -191,6 +193,7 @@ fn gather_few(
     Some(sums)
 }
 
+// The sums with what arrives along one end more.
 fn added(sums: Sums, weighed: Weighed) -> Sums
     requires low { pos 0 ≤ℤ sums.weights }
     requires high { sums.weights ≤ℤ pos 1_500_000_000_000_000_000 }
@@ -284,6 +287,7 @@ fn flow_along(table: &[PreparedPipe], end: &End, arrival: &Arrival, head: i64) -
     }
 }
 
+// The same by what is prepared for its pipe.
 #[inline(always)]
 fn flow_by(prepared: &Prepared, arrival: &Arrival, head: i64) -> Option<i64>
     requires arrival_in { IsArrival arrival.now }
@@ -295,6 +299,7 @@ fn flow_by(prepared: &Prepared, arrival: &Arrival, head: i64) -> Option<i64>
     prepared.single_flow(arrival.c - head)
 }
 
+// The point of an end at a head, of the flow into the node.
 #[tactic(auto, unfolding(case_model::specs::Range::point_of))]
 fn level_point(head: i64, end: &End, flow: i64) -> Point
     requires head_in { unsigned_abs head ≤ 100_000_000_000 }
