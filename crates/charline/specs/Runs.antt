@@ -3,6 +3,7 @@
 use Rattle.std.specs.Prelude.{◌≡◌, ◌≤◌, ◌<◌, ◌+◌, ◌*◌, ◌%◌, ℕ, ℤ, pos, negsuc}
 use Rattle.std.specs.Prelude.{◌-ℤ◌, ◌≤ℤ◌, unsigned_abs}
 use Rattle.std.specs.Prelude.{Some}
+use Rattle.fixed_num.specs.Rounding.{rnd}
 use Rattle.case_model.specs.declared.cases.Friction.TheVariants.{Explicit}
 use Rattle.case_model.specs.declared.points.Point.{Point}
 use Rattle.case_model.specs.declared.spots.Spot.{Spot}
@@ -17,6 +18,12 @@ use Rattle.charline.specs.Interior.{inner_point}
 pub record IsScaled (r scaled : ℕ) : Type 0 where
   pub below : scaled * 59_604_644_775_390_625 ≤ r * 72_057_594_037_927_936
   pub above : r * 72_057_594_037_927_936 < (scaled + 2) * 59_604_644_775_390_625
+
+-- the inverse of an impedance in 1e-6 s/m2, in 1e-16 m2/s
+pub record IsInverse (b : ℕ) (inverse : ℤ) : Type 0 where
+  pub value : inverse ≡ rnd (pos 10_000_000_000_000_000_000_000) (pos b)
+  pub low : pos 1_000_000_000 ≤ℤ inverse
+  pub high : inverse ≤ℤ pos 100_000_000_000_000_000
 
 -- an impedance in 1e-6 s/m2, a friction in 1e-12 s2/m5 and the same scaled, a difference of heads
 -- that drives no more than the greatest flow through twice the impedance, a flow in 1e-9 m3/s up to

@@ -27,7 +27,7 @@ ghost use Rattle.case_model.specs.Range.{IsPoint};
 ghost use Rattle.case_model.specs.Runs.{calm_point};
 ghost use Rattle.charline.specs.Characteristics.{driven_flow as driven_flow_of};
 ghost use Rattle.charline.specs.Characteristics.{IsArrival, arrive_plus, arrive_minus};
-ghost use Rattle.charline.specs.Runs.{IsPrepared, IsScaled, IsPlus, IsMinus};
+ghost use Rattle.charline.specs.Runs.{IsPrepared, IsScaled, IsInverse, IsPlus, IsMinus};
 ghost use Rattle.charline.specs.Runs.{IsRise, IsFarFromTie, IsDriven, IsCalmSpot};
 ghost use Rattle.charline.specs.Characteristics.{impedance_head as impedance_head_of};
 ghost use Rattle.charline.specs.Characteristics.{friction_head as friction_head_of};
@@ -35,7 +35,7 @@ ghost use Rattle.charline.specs.Characteristics.{friction_head as friction_head_
 use crate::losses::friction_head;
 use crate::quotients::impedance_head;
 use case_model::{Arrival, Point, Spot};
-use fixed_num::{Reciprocal, billionth, half, mulhi};
+use fixed_num::{Reciprocal, billionth, half, mulhi, rnd};
 
 // A rise of the head that is out of the range of characteristics.
 const OUT: i64 = 1_000_000_000_000_000_000;
@@ -60,9 +60,12 @@ pub struct Prepared {
     scaled: u64,
     // The greatest flow that is computed in 64 bits.
     few: u64,
+    // The inverse of the impedance, in 1e-16 m2/s.
+    inverse: i64,
     ghost spanned: { span ≡ most +ℤ most },
     ghost roomy: { room ≡ pos 100_000_000_000 -ℤ top },
     ghost limits: { IsPrepared b r most scaled few top twice.divisor },
+    ghost inverted: { IsInverse b inverse },
 }
 
 /// The values of both characteristics that leave a place.
@@ -96,6 +99,30 @@ impl Prepared {
             room: over(top),
             scaled: scaled(r),
             few: few(b),
+            inverse: inverse(b),
+        }
+    }
+
+    /// The inverse of the impedance, in 1e-16 m2/s: what arrives at a node counts by it.
+    pub fn weight(&self) -> i64
+        ensures { IsInverse self.now.b result }
+    {
+        self.inverse
+    }
+
+    /// The flow that a difference of heads drives through the impedance, where it is told to be in
+    /// range.
+    pub fn single_flow(&self, difference: i64) -> Option<i64>
+        requires { unsigned_abs difference ≤ 2_000_000_000_000_000_000 }
+        ensures value { let p = self.now in IfSome result (λ flow.
+            flow ≡ driven_flow_of difference (pos p.b)) }
+        ensures size { IfSome result (λ flow. unsigned_abs flow ≤ 1_000_000_000_000) }
+    {
+        let twofold = difference + difference;
+        if is_small(twofold, self.most, self.span) {
+            Some(self.flow(twofold))
+        } else {
+            None
         }
     }
 
@@ -117,6 +144,7 @@ impl Prepared {
         requires { IsPoint from.now }
         ensures value { let p = self.now in IfSome result (λ arrival.
             arrive_plus ExplicitFriction (pos p.b) (pos p.r) from.now ≡ Some arrival) }
+        ensures impedance { IfSome result (λ arrival. arrival.b ≡ pos self.now.b) }
         ensures range { IfSome result IsArrival }
     {
         match Spot::of(from) {
@@ -130,6 +158,7 @@ impl Prepared {
         requires { IsPoint from.now }
         ensures value { let p = self.now in IfSome result (λ arrival.
             arrive_minus ExplicitFriction (pos p.b) (pos p.r) from.now ≡ Some arrival) }
+        ensures impedance { IfSome result (λ arrival. arrival.b ≡ pos self.now.b) }
         ensures range { IfSome result IsArrival }
     {
         match Spot::of(from) {
@@ -274,6 +303,15 @@ impl Prepared {
     {
         self.twice.divided(difference * 1_000_000_000)
     }
+}
+
+// The inverse of an impedance, in 1e-16 m2/s.
+fn inverse(b: u64) -> i64
+    requires low { 100_000 ≤ b }
+    requires high { b ≤ 10_000_000_000_000 }
+    ensures { IsInverse b result }
+{
+    rnd(10_000_000_000_000_000_000_000, b as i128) as i64
 }
 
 fn twice(b: u64) -> i64

@@ -1,3 +1,4 @@
 pub mod Junctions
 pub mod Levels
+pub mod Means
 pub mod Sums

@@ -1,5 +1,6 @@
 //! The laws of reservoirs and junctions.
 ghost use Rattle.std.specs.Prelude.{◌≡◌, ◌<◌, ◌≤◌, ◌*◌, ◌==◌, ◌&&◌, ◌≤ℤ◌, int_le, pos};
+ghost use Rattle.std.specs.Prelude.{◌-ℤ◌, ◌*ℤ◌};
 ghost use Rattle.std.specs.Prelude.{unsigned_abs, length, All};
 ghost use Rattle.fixed_num.specs.Rounding.{rnd as rounded};
 ghost use Rattle.std.specs.Int.{int_max};
@@ -20,10 +21,10 @@ ghost use Rattle.junctions.specs.Junctions.{
 ghost use Rattle.junctions.specs.Sums.{most_arrivals};
 
 use crate::levels::{bad_state, state_at, state_with_flows};
+use crate::means::mean;
 use crate::sums::{weighted_sums, write_inflows};
 use case_model::{Arrival, CavityRule, NodeState};
 use charline::cavity_volume;
-use fixed_num::rnd;
 
 /// The state of a reservoir at its head (1e-6 m); `flows` receives the flow into it (1e-9 m3/s) along
 /// each arrival. Bad, with flows 0, where a flow is out of range.
@@ -134,15 +135,19 @@ fn junction_head(demand: i64, arrivals: &[Arrival]) -> i64
     ensures size { unsigned_abs result ≤ 10_010_000_000_000_000 }
 {
     let (heads, weights) = weighted_sums(arrivals);
-    mean(heads - demand as i128 * 10_000_000_000_000, weights)
+    level(demand, heads, weights)
 }
 
-fn mean(heads: i128, weights: i128) -> i64
-    requires low { pos 1 ≤ℤ weights }
+/// The head (1e-6 m) of a junction with a demand (1e-9 m3/s), by the sums over what arrives: that of
+/// value times weight, and that of the weights.
+pub fn level(demand: i64, heads: i128, weights: i128) -> i64
+    requires demand_in { IsFlow demand }
+    requires low { pos 1_000_000_000 ≤ℤ weights }
     requires high { weights ≤ℤ pos 1_600_000_000_000_000_000 }
-    requires heads_in { unsigned_abs heads ≤ 10_010_000_000_000_000 * unsigned_abs weights }
-    ensures value { result ≡ rounded heads weights }
+    requires heads_in { unsigned_abs heads ≤ 10_000_000_000_000 * unsigned_abs weights }
+    ensures value { result
+        ≡ rounded (heads -ℤ (demand *ℤ pos 10_000_000_000_000)) weights }
     ensures size { unsigned_abs result ≤ 10_010_000_000_000_000 }
 {
-    rnd(heads, weights) as i64
+    mean(heads - demand as i128 * 10_000_000_000_000, weights)
 }

@@ -6,8 +6,9 @@
 
 mod laws;
 mod levels;
+mod means;
 mod sums;
 
-pub use laws::{junction, reservoir};
+pub use laws::{junction, level, reservoir};
 pub use levels::{bad_state, filled, state_at, state_with_flows};
-pub use sums::{weighted_sums, write_inflows};
+pub use sums::{weighted, weighted_sums, write_inflows};

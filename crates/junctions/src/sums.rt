@@ -75,7 +75,8 @@ fn flow_in(head: i64, arrival: &Arrival) -> i64
     driven_flow(arrival.c - head, arrival.b)
 }
 
-fn weighted(c: i64, weight: i64) -> i128
+/// The value of what arrives (1e-6 m) times its weight (1e-16 m2/s).
+pub fn weighted(c: i64, weight: i64) -> i128
     requires value_in { unsigned_abs c ≤ 10_000_000_000_000 }
     requires weight_in { unsigned_abs weight ≤ 100_000_000_000_000_000 }
     ensures value { result ≡ c *ℤ weight }

@@ -1,4 +1,5 @@
 pub mod Calm
+pub mod CalmJunctions
 pub mod Caused
 pub mod Divided
 pub mod EndPoints

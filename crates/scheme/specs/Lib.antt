@@ -1,4 +1,5 @@
 pub mod Arrivals
+pub mod CalmNodes
 pub mod Causes
 pub mod Computable
 pub mod Ends

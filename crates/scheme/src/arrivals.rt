@@ -100,12 +100,15 @@ fn prepared_arrival(table: &[PreparedPipe], end: &End, point: &Point) -> Option<
     }
 }
 
-fn arrival_along(prepared: &Prepared, end: &End, point: &Point) -> Option<Arrival>
+/// What arrives along an end of a pipe that is prepared; None where the law of any pipe is to tell.
+#[inline(always)]
+pub(crate) fn arrival_along(prepared: &Prepared, end: &End, point: &Point) -> Option<Arrival>
     requires point_in { IsPoint point.now }
     ensures value { (mesh : MeshSeen) → pos prepared.now.b ≡ impedance_of mesh end.now.pipe →
         pos prepared.now.r ≡ resistance_of mesh end.now.pipe →
         IfSome result (λ arrival.
         arrival_of ExplicitFriction mesh end.now point.now ≡ Some arrival) }
+    ensures impedance { IfSome result (λ arrival. arrival.b ≡ pos prepared.now.b) }
     ensures range { IfSome result IsArrival }
 {
     if end.at_last {

@@ -6,6 +6,7 @@
 #![tactic(auto)]
 
 mod arrivals;
+mod calm_nodes;
 mod causes;
 mod ends;
 mod interior;

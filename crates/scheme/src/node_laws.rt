@@ -1,5 +1,6 @@
 //! The law of a node, by its kind.
 ghost use Rattle.std.specs.Prelude.{◌≡◌, ◌<◌, ◌≤◌, pos, unsigned_abs, IsTrue, length, [], ◌∷◌, All};
+ghost use Rattle.std.specs.Prelude.{IfSome};
 ghost use Rattle.case_model.specs.declared.cases.TableKind.TheVariants.{Curve, Gas};
 ghost use Rattle.case_model.specs.Limits.{IsHead, IsFlow, IsWithin, IsKind, IsRead, IsTableOf};
 ghost use Rattle.case_model.specs.Limits.{IsValve};
@@ -25,6 +26,7 @@ ghost use Rattle.scheme.specs.NodeLaws.{valve_of};
 ghost use Rattle.scheme.specs.Runs.{ArePrepared};
 
 use crate::arrivals::gather;
+use crate::calm_nodes::calm_law;
 use crate::ends::{bad_points, end_points, pass, sides};
 use crate::prepared::PreparedPipe;
 use crate::values::{cavity_rule, demand_at, head_at, opening_at, speed_at};
@@ -46,21 +48,93 @@ pub(crate) struct NodeStep<'a> {
     pub(crate) table: &'a [PreparedPipe],
 }
 
-// A node as its law sees it.
+/// A node as its law sees it.
 #[derive(Clone, Copy)]
-struct NodeView<'a> {
-    kind: &'a NodeKind,
-    ends: &'a [End],
-    step: u64,
-    own: &'a NodeState,
-    table: &'a [PreparedPipe],
+pub(crate) struct NodeView<'a> {
+    /// What it is.
+    pub(crate) kind: &'a NodeKind,
+    /// Its pipe ends.
+    pub(crate) ends: &'a [End],
+    /// The step that is computed.
+    pub(crate) step: u64,
+    /// Its state at the step before.
+    pub(crate) own: &'a NodeState,
+    /// What is prepared for the first pipes of the mesh.
+    pub(crate) table: &'a [PreparedPipe],
 }
 
 /// The state of a node at a step, of its old state and the points beside it; `points` receives the
 /// point of each of its ends. Bad exactly where something that it reads is, a characteristic is out of
 /// range, a valve is over its limit, or a head, flow or volume of the result is out of range.
-#[tactic(auto, unfolding(crate::specs::NodeLaws::node_law))]
 pub(crate) fn node_law(
+    case: &Case,
+    mesh: &Mesh,
+    at: &NodeStep,
+    own: &NodeState,
+    near: &[Point],
+    points: &mut [Point],
+) -> NodeState
+    requires fit { IsComputable case.now mesh.now }
+    requires prepared { ArePrepared case.now mesh.now at.now.table.now }
+    requires on_mesh { at.now.node < length mesh.now.ends }
+    requires near_each { length near.now ≡ length (ends_of mesh.now at.now.node) }
+    requires points_each { length points.old ≡ length (ends_of mesh.now at.now.node) }
+    requires own_in { IsState own.now }
+    requires near_in { All IsPoint near.now }
+    ensures state { result
+        ≡ (law_of_node case.now mesh.now at.now.node at.now.step own.now near.now).0 }
+    ensures points { points.new
+        ≡ (law_of_node case.now mesh.now at.now.node at.now.step own.now near.now).1 }
+{
+    match calm_node(case, mesh, at, own, near, points) {
+        Some(state) => state,
+        None => {
+            // A copy of its own, which is not written where it is not needed.
+            let held = *at;
+            any_node(case, mesh, &held, own, near, points)
+        }
+    }
+}
+
+// The same where few products tell it.
+#[inline(always)]
+#[tactic(auto, unfolding(crate::specs::NodeLaws::node_law))]
+fn calm_node(
+    case: &Case,
+    mesh: &Mesh,
+    at: &NodeStep,
+    own: &NodeState,
+    near: &[Point],
+    points: &mut [Point],
+) -> Option<NodeState>
+    requires fit { IsComputable case.now mesh.now }
+    requires prepared { ArePrepared case.now mesh.now at.now.table.now }
+    requires on_mesh { at.now.node < length mesh.now.ends }
+    requires near_each { length near.now ≡ length (ends_of mesh.now at.now.node) }
+    requires points_each { length points.old ≡ length (ends_of mesh.now at.now.node) }
+    requires own_in { IsState own.now }
+    requires near_in { All IsPoint near.now }
+    ensures each { length points.new ≡ length (ends_of mesh.now at.now.node) }
+    ensures state { IfSome result (λ state. state
+        ≡ (law_of_node case.now mesh.now at.now.node at.now.step own.now near.now).0) }
+    ensures points { IfSome result (λ state. points.new
+        ≡ (law_of_node case.now mesh.now at.now.node at.now.step own.now near.now).1) }
+{
+    let view = NodeView {
+        kind: &case.nodes.as_slice()[at.node as usize].kind,
+        ends: mesh.ends.as_slice()[at.node as usize].as_slice(),
+        step: at.step,
+        own,
+        table: at.table,
+    };
+    let hv = node_vapour_head(case, at.node);
+    calm_law(case, mesh, hv, &view, near, points)
+}
+
+// The same of any node.
+#[inline(never)]
+#[tactic(auto, unfolding(crate::specs::NodeLaws::node_law))]
+fn any_node(
     case: &Case,
     mesh: &Mesh,
     at: &NodeStep,

@@ -288,6 +288,6 @@ fn step_spokes<L: Law>(
 {
     stands_for_equal_maps();
     for i in 0..spokes.len() {
-        spokes[i].step(law, fold, at, ends[i]);
+        spokes[i].step(law, fold, at, &ends[i]);
     }
 }

@@ -188,19 +188,19 @@ impl Spoke {
         fold: &mut Fold,
         step: u64,
         most: usize,
-        point: Point,
+        point: &Point,
     )
         requires line { IsNumberedLine (L.meaning law.now) self.old.stretch }
         requires inside { most + 1 < count_of self.old.stretch }
         requires noted { NotesSpoke self.old fold.old }
         requires room { step + 1 < 2 ^ 64 }
-        requires in_range { IsPoint point }
+        requires in_range { IsPoint point.now }
         ensures last { self.new.last ≡ self.old.last }
         ensures advanced { (since front later : ℕ → ℕ) →
             Raises step (λ x. x) (run_low self.old.last (count_of self.old.stretch - 1) most)
             (run_low self.old.last (count_of self.old.stretch - 1) most + most + 1)
             (count_of self.old.stretch) since front later →
-            point ≡ spot (L.meaning law.now) self.old.stretch (step + 1)
+            point.now ≡ spot (L.meaning law.now) self.old.stretch (step + 1)
             (end_place self.old.last (count_of self.old.stretch - 1)) →
             Holds (L.meaning law.now) since front self.old.stretch →
             IsAdvanced (L.meaning law.now) since front later self.old.stretch self.new.stretch
@@ -211,19 +211,19 @@ impl Spoke {
         let at = self.end();
         let low = self.inner_low(most);
         self.stretch.step_run(law, step, low, low + most);
-        self.stretch.put(step + 1, at, point);
+        self.stretch.put(step + 1, at, *point);
         let low = low.min(at);
         self.stretch.note(fold, step + 1, low, low + most + 1);
     }
 
     // One step of a window: the end's point is given.
-    pub(crate) fn step<L: Law>(&mut self, law: &L, fold: &mut Fold, at: WindowStep, point: Point)
+    pub(crate) fn step<L: Law>(&mut self, law: &L, fold: &mut Fold, at: WindowStep, point: &Point)
         requires inside { at.done < at.window }
         requires room { at.start + at.window < 2 ^ 64 }
         requires computed { IsSpokeAfter (L.meaning law.now) at.window at.start at.done self.old }
         requires noted { NotesSpoke self.old fold.old }
-        requires in_range { IsPoint point }
-        requires point { point
+        requires in_range { IsPoint point.now }
+        requires point { point.now
             ≡ spot (L.meaning law.now) self.old.stretch (at.start + at.done + 1)
             (end_place self.old.last (half at.window)) }
         ensures { IsSpokeStepped (L.meaning law.now) at.window at.start at.done self.old self.new

@@ -27,7 +27,7 @@ returns-clause-advanced g c = λ since front later ra p h.
     let low-in : c.inner_low-low.result ≡ inner_low last n most = c.inner_low-low.ensures in
     let same = places-then old mid new c.step_run.ensures.stepped.same c.put.ensures.put.same in
     let held = spoke-holds law last n step most c.inner_low-low.result c.end-at.result old mid new
-    since front later c.args.point
+    since front later c.args.point.now
     size a low-in at-is c.step_run.ensures.stepped.same ra p c.step_run.ensures.holds
     (c.put.ensures.holds law) h in
     let low : c.min-low.result ≡ run_low last n most =
