@@ -63,6 +63,7 @@ pub fn advance_start<L: Law>(law: &L, stretch: &mut Stretch, fold: &mut Fold)
 
 /// A later region of a section, over the window of so many steps after `start`: the blocks of
 /// both stations are loaded, and the tent is raised by a window.
+#[inline(always)]
 pub fn advance_region<L: Law>(
     law: &L,
     window: usize,

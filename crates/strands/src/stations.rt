@@ -71,6 +71,7 @@ pub fn advance_place<L: Law>(
 
 /// A region of a seam, over the window of so many steps after `start`: the blocks of both sections
 /// are loaded, and the seam in the middle of the stretch and its two triangles are computed.
+#[inline(always)]
 pub fn advance_seam<L: Law>(
     law: &L,
     window: usize,
