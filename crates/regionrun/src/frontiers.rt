@@ -108,6 +108,7 @@ impl Frontier {
     }
 
     /// Computes the next region.
+    #[inline(always)]
     pub(crate) fn compute<L: Law>(&mut self, law: &L)
         requires ready { IsReadySome (L.meaning law.now) self.old }
         ensures right { (layout : LayoutSeen) → IsRight (L.meaning law.now) layout self.old →
@@ -181,6 +182,7 @@ impl Frontier {
     }
 
     // Computes the next region, and notes it.
+    #[inline(always)]
     fn advance<L: Law>(&mut self, law: &L)
         requires ready { IsReadySome (L.meaning law.now) self.old }
         ensures right { (layout : LayoutSeen) → IsRight (L.meaning law.now) layout self.old →
