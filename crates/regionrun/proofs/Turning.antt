@@ -11,7 +11,7 @@ use Rattle.regions.specs.Needs.{needs_of}
 use Rattle.regions.specs.Sides.{back_of, is_section, side_of, sides_of}
 use Rattle.regionrun.specs.declared.frontiers.Frontier.{Frontier}
 use Rattle.regionrun.specs.declared.one_strand.Strand.{Strand}
-use Rattle.regionrun.specs.Engine.{AreBeside, IsCourse, IsLending}
+use Rattle.regionrun.specs.Engine.{AreBeside, IsCourse}
 use Rattle.regionrun.specs.Bodies.{HasOutgoing, IsComputed}
 use Rattle.regionrun.specs.Handed.{ArePointsFor}
 use Rattle.regionrun.specs.Lawful.{IsLawful}

@@ -55,8 +55,8 @@ impl Frontier {
         }
     }
 
-    /// Takes in the block that the next region needs of a side. Who calls it tells the window: where
-    /// that is a constant, no test of it is left.
+    /// Takes in the block that the next region needs of a side. Who calls it tells the window:
+    /// where that is a constant, no test of it is left.
     #[inline(always)]
     pub(crate) fn load<L: Law, B: Block>(&mut self, law: &L, window: usize, side: usize, block: &B)
         requires window { window ≡ self.old.window }

@@ -1,4 +1,4 @@
-use Rattle.std.proofs.Common.{◌≡◌, ℕ, ◌<◌, ◌∙◌, ap, arith, subst, sym}
+use Rattle.std.proofs.Common.{ℕ, ◌<◌, ◌∙◌, ap, arith, subst, sym}
 use Rattle.regions.specs.Sides.{is_section}
 use Rattle.regionrun.specs.Neighbours.{IsNeighbour}
 use Rattle.regionrun.proofs.Turning.{both-loaded, same-on}

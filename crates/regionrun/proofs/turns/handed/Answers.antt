@@ -1,4 +1,4 @@
-use Rattle.std.proofs.Common.{ℕ, ◌≡◌, ◌<◌, ◌∙◌, subst, sym}
+use Rattle.std.proofs.Common.{ℕ, ◌<◌, ◌∙◌, subst, sym}
 use Rattle.regionrun.specs.Bodies.{FitsWindow, HasOutgoing, IsComputed}
 use Rattle.regionrun.specs.Lent.{lent_tells}
 use Rattle.regionrun.proofs.Keeping.{right-fits, right-sides}

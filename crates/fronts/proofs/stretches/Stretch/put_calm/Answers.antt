@@ -1,7 +1,7 @@
 use Rattle.std.proofs.Common.{◌<◌, ◌∙◌, ap, subst, sym}
 use Rattle.std.specs.Prelude.{not}
 use Rattle.case_model.specs.Runs.{calm_point}
-use Rattle.fronts.specs.Stretches.{IsSet, count_of, slot}
+use Rattle.fronts.specs.Stretches.{IsSet, slot}
 use Rattle.fronts.proofs.Keeping.{put-set}
 use Rattle.fronts.proofs.stretches.Stretch.put_calm.Goals as goal
 
