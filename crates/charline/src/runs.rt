@@ -128,6 +128,7 @@ impl Prepared {
 
     /// The values of both characteristics that leave a place without a cavity, each out of range where
     /// the characteristic is: one flow gives both.
+    #[inline(always)]
     pub fn both(&self, from: &Spot) -> Both
         ensures plus { IsPlus self.now.b self.now.r (calm_point from.now) result.plus }
         ensures minus { IsMinus self.now.b self.now.r (calm_point from.now) result.minus }
@@ -185,6 +186,7 @@ impl Prepared {
 
     /// Where two characteristics meet at a place without a cavity, at `top` or above and all in range;
     /// None where the full law is to tell.
+    #[inline(always)]
     pub fn meeting(&self, plus: i64, minus: i64) -> Option<Spot>
         requires plus_in { unsigned_abs plus ≤ 2_000_000_000_000_000_000 }
         requires minus_in { unsigned_abs minus ≤ 2_000_000_000_000_000_000 }
@@ -194,6 +196,7 @@ impl Prepared {
     }
 
     // The place at a head between characteristics with this difference, if both are told to be small.
+    #[inline(always)]
     fn driven(&self, head: i64, difference: i64) -> Option<Spot>
         requires head_in { unsigned_abs head ≤ 4_000_000_000_000_000_000 }
         requires difference_in { unsigned_abs difference ≤ 4_000_000_000_000_000_000 }
@@ -206,6 +209,7 @@ impl Prepared {
         }
     }
 
+    #[inline(always)]
     fn spot(&self, head: i64, difference: i64) -> Spot
         requires head_in { unsigned_abs head ≤ 100_000_000_000 }
         requires difference_in { unsigned_abs difference ≤ unsigned_abs self.now.most }
@@ -219,6 +223,7 @@ impl Prepared {
     }
 
     // The head that a flow stands for less that which friction takes from it, or one out of range.
+    #[inline(always)]
     fn rise(&self, q: i64) -> i64
         requires { unsigned_abs q ≤ 1_000_000_000_000 }
         ensures size { unsigned_abs result ≤ 1_000_000_000_000_000_000 }
@@ -241,6 +246,7 @@ impl Prepared {
     }
 
     // The same where few products tell it; `size` is that of the flow.
+    #[inline(always)]
     fn quick_rise(&self, q: i64, size: u64) -> Option<i64>
         requires size { size ≡ unsigned_abs q }
         ensures size { IfSome result (λ rise. unsigned_abs rise ≤ 1_000_000_000_000_000_000) }
@@ -257,6 +263,7 @@ impl Prepared {
     }
 
     #[tactic(auto, unfolding(crate::specs::Characteristics::impedance_head))]
+    #[inline(always)]
     fn quick_head(&self, q: i64) -> i64
         requires { unsigned_abs q ≤ self.now.few }
         ensures value { result ≡ impedance_head_of (pos self.now.b) q }
@@ -275,6 +282,7 @@ impl Prepared {
 
     // The loss is told to 72 units of 2^-16, which decides how it is rounded unless it lies that near
     // to a tie.
+    #[inline(always)]
     fn quick_loss(&self, q: i64, size: u64) -> Option<i64>
         requires size { size ≡ unsigned_abs q }
         requires few { size ≤ self.now.few }
@@ -285,6 +293,7 @@ impl Prepared {
     }
 
     // The loss in units of 2^-16, with a half and 128 units added.
+    #[inline(always)]
     fn near_loss(&self, q: i64, size: u64) -> i64
         requires size { size ≡ unsigned_abs q }
         requires few { size ≤ self.now.few }
@@ -296,6 +305,7 @@ impl Prepared {
 
     // The flow that a difference of characteristics drives through both impedances.
     #[tactic(auto, unfolding(crate::specs::Characteristics::driven_flow))]
+    #[inline(always)]
     fn flow(&self, difference: i64) -> i64
         requires { unsigned_abs difference ≤ unsigned_abs self.now.most }
         ensures value { result ≡ driven_flow_of difference (pos (2 * self.now.b)) }

@@ -240,6 +240,33 @@ impl Stretch {
         requires { place < count_of self.old }
         ensures { ArePut even place (calm_point first) (calm_point second) self.old self.new }
     {
+        if self.calm {
+            self.put_calm(even, place, first, second);
+        } else {
+            self.put_each(even, place, first, second);
+        }
+    }
+
+    // As `put_spots`, in a calm stretch.
+    #[inline(always)]
+    fn put_calm(&mut self, even: bool, place: usize, first: Spot, second: Spot)
+        requires inside { place < count_of self.old }
+        requires calm { self.old.calm ≡ true }
+        ensures { ArePut even place (calm_point first) (calm_point second) self.old self.new }
+    {
+        let here = self.slot(even, place);
+        let there = self.slot(!even, place);
+        self.set_calm(here, first);
+        self.set_calm(there, second);
+    }
+
+    // As `put_spots`, where cavities are kept.
+    #[cold]
+    #[inline(never)]
+    fn put_each(&mut self, even: bool, place: usize, first: Spot, second: Spot)
+        requires { place < count_of self.old }
+        ensures { ArePut even place (calm_point first) (calm_point second) self.old self.new }
+    {
         self.put_spot(even, place, first);
         self.put_spot(!even, place, second);
     }
@@ -307,7 +334,8 @@ impl Stretch {
     fn set_calm(&mut self, slot: usize, spot: Spot)
         requires inside { slot < 2 * count_of self.old }
         requires calm { self.old.calm ≡ true }
-        ensures { IsSet slot (calm_point spot) self.old self.new }
+        ensures set { IsSet slot (calm_point spot) self.old self.new }
+        ensures calm { self.new.calm ≡ true }
     {
         self.spots[slot] = spot;
     }

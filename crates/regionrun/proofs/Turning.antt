@@ -11,10 +11,11 @@ use Rattle.regions.specs.Needs.{needs_of}
 use Rattle.regions.specs.Sides.{back_of, is_section, side_of, sides_of}
 use Rattle.regionrun.specs.declared.frontiers.Frontier.{Frontier}
 use Rattle.regionrun.specs.declared.one_strand.Strand.{Strand}
-use Rattle.regionrun.specs.Engine.{AreBeside, IsCourse, IsLending}
+use Rattle.regionrun.specs.Engine.{AreBeside, IsCourse}
 use Rattle.regionrun.specs.Bodies.{HasOutgoing, IsComputed}
 use Rattle.regionrun.specs.Handed.{ArePointsFor}
 use Rattle.regionrun.specs.Lawful.{IsLawful}
+use Rattle.regionrun.specs.Neighbours.{IsNeighbour}
 use Rattle.regionrun.proofs.Keeping.{right-outgoing, right-sides}
 use Rattle.regionrun.specs.Right.{IsGiven, IsRight, IsSameStrand, has_loaded}
 use Rattle.strands.proofs.Handing.{before-or-at}
@@ -70,16 +71,6 @@ neighbour-there strand_of entered_of law layout net section r first strands x c 
     subst (λ z. (first ≤ z) × (z < first + length strands)) (sym e)
     (beside.all (side_of layout law.mesh x c) (both.inside x c there side)
     (both.kinds x c there side ∙ ap not kind))
-
--- what is known of its frontier
-pub record IsNeighbour (law : Meaning) (layout : Layout) (section : Bool) (r x c back : ℕ)
-    (frontier : Frontier) : Type 0 where
-  pub number_is : frontier.number ≡ side_of layout law.mesh x c
-  pub back_is : back ≡ back_of layout law.mesh x c
-  pub below : back < frontier.sides
-  pub right : IsRight law layout frontier
-  pub computed_is : frontier.computed ≡ (if section then r else r + 1)
-  pub lending : IsLending law layout frontier
 
 neighbour-at : {S : Type 0} (strand_of entered_of : S → ℕ) (law : Meaning)
     (layout : Layout) (net : Net) (section : Bool) (r first : ℕ) (strands : List (Strand S))
@@ -143,37 +134,40 @@ pub some-of : (o : Option ℕ) → is_some o ≡ true → (b : ℕ) × (o ≡ So
 some-of (Some b) e = (b, refl)
 some-of None e = cc
 
--- so some region of theirs is computed
-pub needed-some : (law : Meaning) (layout : Layout) (section : Bool) (r x c back : ℕ)
+-- so that is the region of theirs that was computed last
+pub needed-last : (law : Meaning) (layout : Layout) (section : Bool) (r x c back b : ℕ)
     (frontier : Frontier) → IsNeighbour law layout section r x c back frontier
-    → is_some (needs_of section r) ≡ true → 1 ≤ frontier.computed
-needed-some law layout section r x c back frontier is some =
-    let need = some-of (needs_of section r) some in
-    let e = needed-is section r need.0 need.1 in
-    let f = is.computed_is in
+    → needs_of section r ≡ Some b → frontier.computed ≡ b + 1
+needed-last law layout section r x c back b frontier is need =
+    is.computed_is ∙ needed-is section r b need
+
+one-needed : (section : Bool) (r a b : ℕ) → needs_of section r ≡ Some a
+    → needs_of section r ≡ Some b → a ≡ b
+one-needed section r a b one other =
+    let e = needed-is section r a one in
+    let f = needed-is section r b other in
     omega arith
 
 -- what it lends the strand is what the strand needs
-pub handed-points : (law : Meaning) (layout : Layout) (section : Bool) (r x c back b : ℕ)
+pub handed-points : (law : Meaning) (layout : Layout) (section : Bool) (r x c back a b : ℕ)
     (frontier : Frontier) (tells : ℕ → Point → Type 0) → IsLawful layout law.mesh
-    → IsNeighbour law layout section r x c back frontier → needs_of section r ≡ Some b
-    → (IsComputed law frontier.window (frontier.computed - 1) frontier.body
-    → HasOutgoing law frontier.window (frontier.computed - 1) back frontier.body tells)
+    → IsNeighbour law layout section r x c back frontier → needs_of section r ≡ Some a
+    → needs_of section r ≡ Some b
+    → (IsComputed law layout.window a frontier.body
+    → HasOutgoing law layout.window a back frontier.body tells)
     → ArePointsFor law layout (side_of layout law.mesh x c) (back_of layout law.mesh x c) b tells
-handed-points law layout section r x c back b frontier tells lawful is need lends =
-    let e : frontier.computed ≡ b + 1 = is.computed_is ∙ needed-is section r b need in
-    let m : frontier.computed - 1 ≡ b = omega arith in
-    let computed : IsComputed law frontier.window (frontier.computed - 1) frontier.body =
-    subst (λ (w : ℕ). IsComputed law w (frontier.computed - 1) frontier.body)
-    (sym is.right.window_is)
-    (subst (λ (n : ℕ). IsComputed law layout.window n frontier.body) (sym m)
-    (is.lending.computed b e)) in
+handed-points law layout section r x c back a b frontier tells lawful is first need lends =
+    let same : a ≡ b = one-needed section r a b first need in
+    let e : frontier.computed ≡ a + 1 =
+    needed-last law layout section r x c back a frontier is first in
+    let there : HasOutgoing law frontier.window a back frontier.body tells =
+    subst (λ (w : ℕ). HasOutgoing law w a back frontier.body tells) (sym is.right.window_is)
+    (lends (is.lending.computed a e)) in
     let here : ArePointsFor law layout frontier.number back b tells =
-    right-outgoing law layout frontier.computed b back frontier tells lawful is.right
+    subst (λ (n : ℕ). ArePointsFor law layout frontier.number back n tells) same
+    (right-outgoing law layout frontier.computed a back frontier tells lawful is.right
     (subst (λ (n : ℕ). back < n)
-    (right-sides law layout frontier.computed frontier is.right) is.below)
-    (subst (λ (n : ℕ). HasOutgoing law frontier.window n back frontier.body tells) m
-    (lends computed)) in
+    (right-sides law layout frontier.computed frontier is.right) is.below) there) in
     subst (λ y. ArePointsFor law layout y (back_of layout law.mesh x c) b tells) is.number_is
     (subst (λ z. ArePointsFor law layout frontier.number z b tells) is.back_is here)
 
@@ -214,6 +208,15 @@ one-loaded old new side loaded before there c below =
       | inl l ↦ rw (before c l) refl
       | inr e ↦ or_right (has_loaded old c) (c == side) (eq-eqb c side e)
     ]
+
+-- both blocks of a strand with two sides are loaded
+pub both-loaded : (old between new : Frontier)
+    → ((c : ℕ) → c < old.sides → has_loaded between c ≡ (has_loaded old c || (c == 0)))
+    → ((c : ℕ) → c < between.sides → has_loaded new c ≡ (has_loaded between c || (c == 1)))
+    → old.sides ≡ 2 → between.sides ≡ 2 → (c : ℕ) → c < 2 → has_loaded new c ≡ true
+both-loaded old between new one other two still =
+    one-loaded between new 1 other
+    (one-loaded old between 0 one (λ c l. absurd (omega arith)) (omega arith)) (omega arith)
 
 -- a strand is the same as one that is the same as it
 pub same-on : (one two three : Frontier) → IsSameStrand one two → IsSameStrand two three

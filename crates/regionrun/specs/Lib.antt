@@ -5,6 +5,7 @@ pub mod Handed
 pub mod Lawful
 pub mod Lent
 pub mod Made
+pub mod Neighbours
 pub mod Owned
 pub mod Places
 pub mod Right

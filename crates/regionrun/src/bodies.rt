@@ -50,6 +50,7 @@ impl Body {
     }
 
     /// Takes the block of one side in that a region needs.
+    #[inline(always)]
     pub(crate) fn load<B: Block>(&mut self, side: usize, window: usize, region: u64, block: &B)
         requires few_steps { window ≤ WIDEST_WINDOW }
         requires few { region ≤ 100_000_001 }
@@ -74,6 +75,7 @@ impl Body {
     }
 
     /// Computes a region, and notes it.
+    #[inline(always)]
     pub(crate) fn advance<L: Law>(&mut self, law: &L, window: usize, region: u64, fold: &mut Fold)
         requires some { 1 ≤ window }
         requires few_steps { window ≤ WIDEST_WINDOW }
@@ -99,6 +101,7 @@ impl Body {
     }
 
     /// A region's block for one side, read where its points stand.
+    #[inline(always)]
     pub(crate) fn block(&self, side: usize, window: usize, region: u64) -> Lent
         requires few_steps { window ≤ WIDEST_WINDOW }
         requires few { region ≤ 100_000_001 }
@@ -128,6 +131,7 @@ fn steps_in(window: usize, windows: u64) -> u64
 }
 
 // Computes a region of a section, and notes it.
+#[inline(always)]
 fn advance_section<L: Law>(
     law: &L,
     section: &mut Section,

@@ -55,8 +55,11 @@ impl Frontier {
         }
     }
 
-    /// Takes in the block that the next region needs of a side.
-    pub(crate) fn load<L: Law, B: Block>(&mut self, law: &L, side: usize, block: &B)
+    /// Takes in the block that the next region needs of a side. Who calls it tells the window:
+    /// where that is a constant, no test of it is left.
+    #[inline(always)]
+    pub(crate) fn load<L: Law, B: Block>(&mut self, law: &L, window: usize, side: usize, block: &B)
+        requires window { window ≡ self.old.window }
         requires given { IsGivenSome (L.meaning law.now) self.old side (B.tells block.now) }
         requires each { B.size block.now ≡ self.old.window }
         ensures right { (layout : LayoutSeen) →
@@ -68,12 +71,13 @@ impl Frontier {
     {
         let _ = law;
         layouts_are_lawful();
-        self.body
-            .load(side, self.window as usize, self.computed as u64, block);
+        self.body.load(side, window, self.computed as u64, block);
     }
 
     /// The same of a block that a strand lends: its kind is asked once.
-    pub(crate) fn load_lent<L: Law>(&mut self, law: &L, side: usize, block: &Lent)
+    #[inline(always)]
+    pub(crate) fn load_lent<L: Law>(&mut self, law: &L, window: usize, side: usize, block: &Lent)
+        requires window { window ≡ self.old.window }
         requires given { IsGivenSome (L.meaning law.now) self.old side (lent_tells block.now) }
         requires each { lent_size block.now ≡ self.old.window }
         ensures right { (layout : LayoutSeen) →
@@ -84,8 +88,8 @@ impl Frontier {
         ensures same { IsSameStrand self.old self.new × (self.new.computed ≡ self.old.computed) }
     {
         match block {
-            Lent::BySection(block) => self.load(law, side, block),
-            Lent::ByStation(block) => self.load(law, side, block),
+            Lent::BySection(block) => self.load(law, window, side, block),
+            Lent::ByStation(block) => self.load(law, window, side, block),
         }
     }
 
@@ -100,10 +104,11 @@ impl Frontier {
         ensures same { IsSameStrand self.old self.new × (self.new.computed ≡ self.old.computed) }
     {
         keeps_range(law);
-        self.load(law, side, &Words { words });
+        self.load(law, self.window as usize, side, &Words { words });
     }
 
     /// Computes the next region.
+    #[inline(always)]
     pub(crate) fn compute<L: Law>(&mut self, law: &L)
         requires ready { IsReadySome (L.meaning law.now) self.old }
         ensures right { (layout : LayoutSeen) → IsRight (L.meaning law.now) layout self.old →
@@ -120,19 +125,19 @@ impl Frontier {
         self.computed += 1;
     }
 
-    /// The block of the region that was computed last, for a side, read where its points stand.
-    pub(crate) fn block(&self, side: usize) -> Lent
-        requires some { 1 ≤ self.now.computed }
+    /// The block of the region that was computed last, for a side, read where its points stand. Who
+    /// calls it tells the window and the region, as for `load`.
+    #[inline(always)]
+    pub(crate) fn block(&self, window: usize, region: u64, side: usize) -> Lent
+        requires window { window ≡ self.now.window }
+        requires region { region + 1 ≡ self.now.computed }
         requires side { side < side_count self.now.body }
-        requires fits { FitsWindow self.now.window self.now.body }
-        ensures points { (law : Meaning) →
-            IsComputed law self.now.window (self.now.computed - 1) self.now.body →
-            HasOutgoing law self.now.window (self.now.computed - 1) side self.now.body
-            (lent_tells result) }
-        ensures size { lent_size result ≡ self.now.window }
+        requires fits { FitsWindow window self.now.body }
+        ensures points { (law : Meaning) → IsComputed law window region self.now.body →
+            HasOutgoing law window region side self.now.body (lent_tells result) }
+        ensures size { lent_size result ≡ window }
     {
-        self.body
-            .block(side, self.window as usize, self.computed as u64 - 1)
+        self.body.block(side, window, region)
     }
 
     /// Computes the next region, and writes the words of its block where it has one.
@@ -167,14 +172,17 @@ impl Frontier {
             IsBlock law layout self.now.number (self.now.computed - 1) out.new }
     {
         layouts_are_lawful();
-        let width = 4 * self.window as usize;
+        let window = self.window as usize;
+        let region = self.computed as u64 - 1;
+        let width = 4 * window;
         for side in 0..self.sides as usize {
             let part = &mut out[width * side..width * side + width];
-            encode_lent(&self.block(side), part);
+            encode_lent(&self.block(window, region, side), part);
         }
     }
 
     // Computes the next region, and notes it.
+    #[inline(always)]
     fn advance<L: Law>(&mut self, law: &L)
         requires ready { IsReadySome (L.meaning law.now) self.old }
         ensures right { (layout : LayoutSeen) → IsRight (L.meaning law.now) layout self.old →

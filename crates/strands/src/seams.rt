@@ -83,6 +83,7 @@ impl Seam {
 
     /// Takes the block of the section at one side in, for the window of so many steps after
     /// `start`. Where it is loaded already this changes nothing.
+    #[inline(always)]
     pub fn load<B: Block>(&mut self, right: bool, window: usize, start: u64, block: &B)
         requires each { B.size block.now ≡ window }
         requires size { count_of (stretch_of self.old) ≡ 2 * half window + 1 }
@@ -106,6 +107,7 @@ impl Seam {
 
     /// Computes the seam and its triangles over the window of so many steps after `start`, and
     /// notes them. Then no block is loaded.
+    #[inline(always)]
     pub fn compute<L: Law>(&mut self, law: &L, window: usize, start: u64, fold: &mut Fold)
         requires seam { IsSeamAt (L.meaning law.now) window start self.old }
         requires left { has_block false self.old ≡ true }

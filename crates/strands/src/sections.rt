@@ -1,5 +1,5 @@
 //! The regions of a section: first the tent over its two stations, then one band after another.
-ghost use Rattle.std.specs.Prelude.{◌≡◌, ℕ, ◌+◌, ◌-◌, ◌*◌, ◌^◌, ◌<◌, ◌≤◌};
+ghost use Rattle.std.specs.Prelude.{◌≡◌, ℕ, ◌+◌, ◌-◌, ◌*◌, ◌^◌, ◌<◌, ◌≤◌, ◌%◌};
 ghost use Rattle.case_model.specs.Meaning.{Meaning};
 ghost use Rattle.fronts.specs.Bands.{from_ends};
 ghost use Rattle.fronts.specs.Fronts.{Holds, Raises, ever, loaded, risen, tent};
@@ -63,6 +63,7 @@ pub fn advance_start<L: Law>(law: &L, stretch: &mut Stretch, fold: &mut Fold)
 
 /// A later region of a section, over the window of so many steps after `start`: the blocks of
 /// both stations are loaded, and the tent is raised by a window.
+#[inline(always)]
 pub fn advance_region<L: Law>(
     law: &L,
     window: usize,
@@ -81,15 +82,42 @@ pub fn advance_region<L: Law>(
         IsAdvanced (L.meaning law.now) ever (loaded start window n) (tent (start + window) n)
         stretch.old stretch.new fold.old fold.new }
 {
-    if window == 2 && stretch.count() == 3 {
-        advance_bare_region(law, window, start, stretch, fold);
+    if window == 2 && stretch.count() == 3 && start % 2 == 0 {
+        advance_even_region(law, window, start, stretch, fold);
     } else {
         advance_any_region(law, window, start, stretch, fold);
     }
 }
 
-// A later region of a section of two reaches, over a window of two steps: it has one place.
+// A later region of a section of two reaches, over a window of two steps after an even step. That
+// shows in what is called: so no parity is looked at there.
 #[inline(never)]
+fn advance_even_region<L: Law>(
+    law: &L,
+    window: usize,
+    start: u64,
+    stretch: &mut Stretch,
+    fold: &mut Fold,
+)
+    requires line { IsLine (L.meaning law.now) stretch.old }
+    requires noted { NotesInside stretch.old fold.old }
+    requires two { window ≡ 2 }
+    requires short { count_of stretch.old ≡ 3 }
+    requires even { start % 2 ≡ 0 }
+    requires some { 1 ≤ window }
+    requires long { window + 1 ≤ count_of stretch.old }
+    requires room { start + 2 * count_of stretch.old < 2 ^ 64 }
+    requires holds { let n = count_of stretch.old - 1 in
+        Holds (L.meaning law.now) ever (loaded start window n) stretch.old }
+    ensures { let n = count_of stretch.old - 1 in
+        IsAdvanced (L.meaning law.now) ever (loaded start window n) (tent (start + window) n)
+        stretch.old stretch.new fold.old fold.new }
+{
+    advance_bare_region(law, window, start / 2 * 2, stretch, fold);
+}
+
+// The same after any step: the section has one place.
+#[inline(always)]
 fn advance_bare_region<L: Law>(
     law: &L,
     window: usize,

@@ -1,5 +1,5 @@
 //! The regions of stations: the station itself and its triangle in each section beside it.
-ghost use Rattle.std.specs.Prelude.{◌≡◌, ℕ, ◌+◌, ◌-◌, ◌*◌, ◌/◌, ◌^◌, ◌<◌, ◌≤◌};
+ghost use Rattle.std.specs.Prelude.{◌≡◌, ℕ, ◌+◌, ◌-◌, ◌*◌, ◌/◌, ◌^◌, ◌<◌, ◌≤◌, ◌%◌};
 ghost use Rattle.case_model.specs.Meaning.{Meaning};
 ghost use Rattle.envelope.specs.Cells.{AreInOneSpan};
 ghost use Rattle.envelope.specs.Folds.{IsSameFold, spans_of};
@@ -71,6 +71,7 @@ pub fn advance_place<L: Law>(
 
 /// A region of a seam, over the window of so many steps after `start`: the blocks of both sections
 /// are loaded, and the seam in the middle of the stretch and its two triangles are computed.
+#[inline(always)]
 pub fn advance_seam<L: Law>(
     law: &L,
     window: usize,
@@ -88,15 +89,40 @@ pub fn advance_seam<L: Law>(
         IsAdvanced (L.meaning law.now) since (seam_front window start 0)
         (seam_front window start window) stretch.old stretch.new fold.old fold.new }
 {
-    if window == 2 {
-        advance_bare_seam(law, window, start, stretch, fold);
+    if window == 2 && start % 2 == 0 {
+        advance_even_seam(law, window, start, stretch, fold);
     } else {
         advance_any_seam(law, window, start, stretch, fold);
     }
 }
 
-// A region of a seam over a window of two steps: its triangles have no places.
+// A region of a seam over a window of two steps after an even step. That shows in what is called:
+// so no parity is looked at there.
 #[inline(never)]
+fn advance_even_seam<L: Law>(
+    law: &L,
+    window: usize,
+    start: u64,
+    stretch: &mut Stretch,
+    fold: &mut Fold,
+)
+    requires two { window ≡ 2 }
+    requires even { start % 2 ≡ 0 }
+    requires line { IsLine (L.meaning law.now) stretch.old }
+    requires noted { NotesTriangles window stretch.old fold.old }
+    requires size { count_of stretch.old ≡ 2 * ((window + 1) / 2) + 1 }
+    requires room { start + window < 2 ^ 64 }
+    requires holds { let since = seam_since window start in
+        Holds (L.meaning law.now) since (seam_front window start 0) stretch.old }
+    ensures { let since = seam_since window start in
+        IsAdvanced (L.meaning law.now) since (seam_front window start 0)
+        (seam_front window start window) stretch.old stretch.new fold.old fold.new }
+{
+    advance_bare_seam(law, window, start / 2 * 2, stretch, fold);
+}
+
+// The same after any step: the triangles of the seam have no places.
+#[inline(always)]
 fn advance_bare_seam<L: Law>(
     law: &L,
     window: usize,

@@ -78,6 +78,7 @@ impl Section {
 
     /// Takes the block of the station at the left or the right in, over the window of so many steps
     /// after `start`; where it is loaded already nothing changes.
+    #[inline(always)]
     pub fn load<B: Block>(&mut self, left: bool, window: usize, start: u64, block: &B)
         requires each { B.size block.now ≡ window }
         requires long { window + 1 ≤ count_of self.old.stretch }
@@ -118,6 +119,7 @@ impl Section {
 
     /// Computes the next region, over the window of so many steps after `start`, of which the
     /// blocks of both stations are loaded, and notes it.
+    #[inline(always)]
     pub fn compute_next<L: Law>(&mut self, law: &L, window: usize, start: u64, fold: &mut Fold)
         requires at { IsSectionAt (L.meaning law.now) window start self.old }
         requires fed { IsFed self.old }

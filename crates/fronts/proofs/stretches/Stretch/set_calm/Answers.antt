@@ -4,9 +4,9 @@ use Rattle.fronts.proofs.Keeping.{in-calm}
 use Rattle.fronts.proofs.stretches.Stretch.set_calm.Goals as goal
 use Rattle.case_model.proofs.Running.{calm-set, calm-beside}
 
-pub returns : goal.returns
+pub returns-clause-set : goal.returns-clause-set
 unfolding count_of
-returns c =
+returns-clause-set c =
     let o = c.args.self.now in
     let e : length o.spots.items ≡ 2 * o.count = o.spots_each in
     record {

@@ -1,5 +1,6 @@
 use Rattle.std.proofs.Common.{ℕ, ◌<◌, subst}
 use Rattle.regionrun.proofs.Keeping.{given-side, right-sides, taken}
+use Rattle.regionrun.specs.Bodies.{HasIncoming, IsOpen}
 use Rattle.regionrun.specs.Right.{has_loaded}
 use Rattle.regionrun.proofs.frontiers.Frontier.load.Goals as goal
 
@@ -22,7 +23,12 @@ returns-clause-right g c = λ layout given.
       keeps = taken law layout c.args.self.now c.load.new.self c.args.side
           (g.B.Block.tells c.args.block.now)
           (c.layouts_are_lawful.ensures layout law.mesh right.laid_out) given
-          c.load.ensures.loaded.same (c.load.ensures.open law);
+          c.load.ensures.loaded.same
+          (subst (λ (w : ℕ). IsOpen law w c.args.self.now.computed c.args.self.now.body
+          → HasIncoming law w c.args.self.now.computed c.args.side c.args.self.now.body
+          (g.B.Block.tells c.args.block.now)
+          → IsOpen law w c.args.self.now.computed c.load.new.self) c.requires.window
+          (c.load.ensures.open law));
       spans = right.spans;
       steps = right.steps;
       stands = right.stands;

@@ -1,6 +1,6 @@
 use Rattle.std.specs.Prelude.{◌≡◌, ℕ, ◌<◌, true}
 use Rattle.regionrun.specs.Right.{IsRight, IsSameStrand, has_loaded}
-use Rattle.regionrun.proofs.turns.feed.Given as goal
+use Rattle.regionrun.proofs.turns.feed_all.Given as goal
 
 abbrev pub invariant-loop-side : goal.invariant-loop-side
 invariant-loop-side g l = record {
