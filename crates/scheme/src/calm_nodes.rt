@@ -1,6 +1,6 @@
 //! Junctions of few ends that have no cavity and get none, by what is prepared for their pipes.
-ghost use Rattle.std.specs.Prelude.{◌≡◌, ◌<◌, ◌≤◌, ◌*◌, ◌+ℤ◌, ◌≤ℤ◌, pos, unsigned_abs, true, length};
-ghost use Rattle.std.specs.Prelude.{All, IfSome, Some};
+ghost use Rattle.std.specs.Prelude.{◌≡◌, ◌<◌, ◌≤◌, ◌*◌, ◌+ℤ◌, ◌≤ℤ◌, pos, unsigned_abs};
+ghost use Rattle.std.specs.Prelude.{true, length, All, IfSome, Some};
 ghost use Rattle.std.specs.List.{list_all};
 ghost use Rattle.case_model.specs.Limits.{IsFlow, IsKind, IsRead};
 ghost use Rattle.case_model.specs.Range.{IsPoint};
