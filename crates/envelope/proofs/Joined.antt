@@ -16,7 +16,7 @@ pub volume-either : (a b : Option Sample) → option_or (volume_of a) (volume_of
 volume-either (Some x) b = refl
 volume-either None b = refl
 
-head-agree : (a b : Option Sample) → ((x y : Sample) → a ≡ Some x → b ≡ Some y → x ≡ y) → (x y : ℤ) → head_of a ≡ Some x → head_of b ≡ Some y → x ≡ y
+pub head-agree : (a b : Option Sample) → ((x y : Sample) → a ≡ Some x → b ≡ Some y → x ≡ y) → (x y : ℤ) → head_of a ≡ Some x → head_of b ≡ Some y → x ≡ y
 head-agree None b h x y p q = cc
 head-agree (Some a) None h x y p q = cc
 head-agree (Some a) (Some b) h x y p q = let e = h a b refl refl in cc

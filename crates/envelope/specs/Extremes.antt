@@ -34,7 +34,7 @@ unmet =
       max_step = 0;
       min = pos 0;
       min_step = 0;
-      volume = pos 0;
+      volume = negsuc 0;
       volume_step = 0;
     }
 

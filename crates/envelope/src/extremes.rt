@@ -1,9 +1,9 @@
 //! The envelope of one place, and the cells that keep one each.
 ghost use Rattle.std.specs.Prelude.{◌≡◌, ◌≢◌, ℕ, ◌<◌, ◌≤◌, ◌≤ℤ◌, ◌<ℤ◌, true, false, Option, Some};
-ghost use Rattle.std.specs.Prelude.{None, length, replicate, slice_index_or, IfOk, ◌+◌, ◌⊎◌};
+ghost use Rattle.std.specs.Prelude.{None, length, replicate, slice_index_or, IfOk, ◌+◌, ◌⊎◌, pos};
 ghost use Rattle.case_model.specs.Runs.{calm_at, calm_point};
 ghost use Rattle.case_model.specs.Samples.{Sample as Taken};
-ghost use Rattle.envelope.specs.Calm.{AreEarly, IsEarly, IsSettled, Joins};
+ghost use Rattle.envelope.specs.Calm.{ArePlain, IsEarly, IsJoined, IsPlain, IsReady, Joins};
 ghost use Rattle.envelope.specs.Extremes.{AgreeAlong, either, unmet, HasExtreme};
 
 use crate::Sample;
@@ -29,7 +29,8 @@ pub struct Extreme {
 }
 
 impl Extreme {
-    /// The extreme of a place of which nothing is taken: its greatest head is below its least.
+    /// The extreme of a place of which nothing is taken: its greatest head is below its least, and its
+    /// volume below 0.
     pub(crate) fn unmet() -> Extreme
         ensures value { result ≡ unmet }
     {
@@ -38,33 +39,32 @@ impl Extreme {
             max_step: 0,
             min: 0,
             min_step: 0,
-            volume: 0,
+            volume: -1,
             volume_step: 0,
         }
     }
 
-    /// The extreme of a place of which one sample is taken.
-    pub(crate) fn of_one(step: u64, sample: &Sample) -> Extreme
-        ensures early { IsEarly step result }
-        ensures taken { (f : ℕ → Option Taken) (last : ℕ) → step ≤ last →
-            f step ≡ Some
-            (record { h = sample.now.h; qu = sample.now.qu; qd = sample.now.qd; v = sample.now.v })
-            → ((s : ℕ) → s ≢ step → f s ≡ None) → HasExtreme f last result }
+    /// The extreme of a place of which one sample is taken, of a head and a volume.
+    pub(crate) fn of_one(step: u64, h: i64, v: i64) -> Extreme
+        ensures plain { pos 0 ≤ℤ v → IsPlain step result }
+        ensures taken { (x : Taken) (f : ℕ → Option Taken) (last : ℕ) → x.h ≡ h → x.v ≡ v →
+            step ≤ last → f step ≡ Some x → ((s : ℕ) → s ≢ step → f s ≡ None) →
+            HasExtreme f last result }
     {
         Extreme {
-            max: sample.h,
+            max: h,
             max_step: step,
-            min: sample.h,
+            min: h,
             min_step: step,
-            volume: sample.v,
+            volume: v,
             volume_step: step,
         }
     }
 
     /// The extreme of a place of which is taken what these two stand for.
     pub(crate) fn joined(&self, other: &Extreme) -> Extreme
-        ensures early { (step : ℕ) → IsEarly step self.now → IsEarly step other.now →
-            IsEarly step result }
+        ensures plain { (step : ℕ) → IsPlain step self.now → IsPlain step other.now →
+            IsPlain step result }
         ensures taken { (f g : ℕ → Option Taken) (last : ℕ) → AgreeAlong f g →
             HasExtreme f last self.now → HasExtreme g last other.now →
             HasExtreme (either f g) last result }
@@ -106,24 +106,19 @@ impl Extreme {
         is_over(self.fullest(), other.fullest())
     }
 
-    // Whether a sample changes nothing at this step, which is known to be `LATE` if no extreme of any
-    // cell stands first at a later one. An extreme of which nothing is taken has no head between its
-    // least and its greatest.
-    fn is_settled<const LATE: bool>(&self, step: u64, sample: &Sample) -> bool
-        ensures { result ≡ true → (LATE ≡ true → IsEarly step self.now) →
-            IsSettled step sample.now.h sample.now.v self.now }
-    {
-        self.min <= sample.h
-            && sample.h <= self.max
-            && sample.v <= self.volume
-            && (LATE || self.is_early(step))
-    }
-
     // Whether no extreme stands first at a later step.
     fn is_early(&self, step: u64) -> bool
         ensures { result ≡ true → IsEarly step self.now }
     {
         self.max_step <= step && self.min_step <= step && self.volume_step <= step
+    }
+
+    // Whether the greatest volume is at least this, and no extreme stands first at a later step.
+    fn is_over(&self, step: u64, v: i64) -> bool
+        ensures full { result ≡ true → v ≤ℤ self.now.volume }
+        ensures early { result ≡ true → IsEarly step self.now }
+    {
+        v <= self.volume && self.is_early(step)
     }
 
     fn is_unmet(&self) -> bool
@@ -182,17 +177,26 @@ pub(crate) fn join_cell(cells: &mut Vec<Extreme>, cell: usize, other: &Extreme)
     ensures others { (c : ℕ) → c ≢ cell →
         slice_index_or cells.new.items c unmet ≡ slice_index_or cells.old.items c unmet }
     ensures count { length cells.new.items ≡ length cells.old.items }
-    ensures early { (step : ℕ) → AreEarly step cells.old.items → IsEarly step other.now →
-        AreEarly step cells.new.items }
+    ensures plain { (step : ℕ) → ArePlain step cells.old.items → IsPlain step other.now →
+        ArePlain step cells.new.items }
 {
     if !cells[cell].covers(other) {
         cells[cell] = cells[cell].joined(other);
     }
 }
 
-/// Joins a sample taken at a step to a cell. Mostly nothing changes, and nothing is written.
-pub(crate) fn join_sample(cells: &mut Vec<Extreme>, cell: usize, step: u64, sample: &Sample)
-    requires { cell < length cells.old.items }
+/// Joins a sample taken at a step to a cell. If `late`, no extreme of any cell stands first at a
+/// later one. Mostly nothing changes, and nothing is written.
+#[inline(always)]
+pub(crate) fn join_sample(
+    cells: &mut Vec<Extreme>,
+    cell: usize,
+    late: bool,
+    step: u64,
+    sample: &Sample,
+)
+    requires there { cell < length cells.old.items }
+    requires late { late ≡ true → ArePlain step cells.old.items }
     ensures here { (f g : ℕ → Option Taken) (last : ℕ) → step ≤ last → AgreeAlong f g →
         g step ≡ Some
         (record { h = sample.now.h; qu = sample.now.qu; qd = sample.now.qd; v = sample.now.v }) →
@@ -202,88 +206,128 @@ pub(crate) fn join_sample(cells: &mut Vec<Extreme>, cell: usize, step: u64, samp
     ensures others { (c : ℕ) → c ≢ cell →
         slice_index_or cells.new.items c unmet ≡ slice_index_or cells.old.items c unmet }
     ensures count { length cells.new.items ≡ length cells.old.items }
-    ensures early { (last : ℕ) → step ≤ last → AreEarly last cells.old.items →
-        AreEarly last cells.new.items }
+    ensures plain { (last : ℕ) → step ≤ last → pos 0 ≤ℤ sample.now.v →
+        ArePlain last cells.old.items → ArePlain last cells.new.items }
 {
-    if !cells[cell].is_settled::<false>(step, sample) {
-        join_cell(cells, cell, &Extreme::of_one(step, sample));
+    join_taken(&mut cells[cell], late, step, sample.h, sample.v);
+}
+
+// The head and the volume of a sample.
+#[inline(always)]
+fn join_taken(cell: &mut Extreme, late: bool, step: u64, h: i64, v: i64)
+    requires { late ≡ true → IsPlain step cell.old }
+    ensures { IsJoined step h v cell.old cell.new }
+{
+    if late && v <= cell.volume {
+        join_head::<true>(cell, step, h, v);
+    } else {
+        join_head::<false>(cell, step, h, v);
     }
 }
 
-/// Joins points without a cavity, taken at one step, to the cells from `first` on, of which no
-/// extreme stands first later than at the step `latest`; gives such a step of the cells after it.
-/// Mostly nothing changes, and nothing is written.
+/// Joins points without a cavity, taken at one step, to the cells from `first` on. If `late`, no
+/// extreme of any cell stands first at a later one. Mostly nothing changes, and nothing is written.
 #[inline(always)]
-pub(crate) fn join_spots(
-    cells: &mut [Extreme],
-    latest: u64,
-    first: usize,
-    step: u64,
-    spots: &[Spot],
-) -> u64
+pub(crate) fn join_spots(cells: &mut [Extreme], late: bool, first: usize, step: u64, spots: &[Spot])
     requires room { first + length spots.now ≤ length cells.old }
-    requires early { AreEarly latest cells.old }
+    requires late { late ≡ true → ArePlain step cells.old }
     ensures here { (i : ℕ) → i < length spots.now →
         Joins (slice_index_or cells.old (first + i) unmet)
         (slice_index_or cells.new (first + i) unmet) step (calm_at spots.now i) }
     ensures others { (c : ℕ) → (c < first) ⊎ (first + length spots.now ≤ c) →
         slice_index_or cells.new c unmet ≡ slice_index_or cells.old c unmet }
     ensures count { length cells.new ≡ length cells.old }
-    ensures early { AreEarly result cells.new }
+    ensures plain { (last : ℕ) → step ≤ last → ArePlain last cells.old → ArePlain last cells.new }
 {
-    if latest <= step {
+    if late {
         join_each::<true>(cells, first, step, spots);
-        step
     } else {
         join_each::<false>(cells, first, step, spots);
-        latest
     }
 }
 
 #[inline(always)]
 fn join_each<const LATE: bool>(cells: &mut [Extreme], first: usize, step: u64, spots: &[Spot])
     requires room { first + length spots.now ≤ length cells.old }
-    requires late { LATE ≡ true → AreEarly step cells.old }
+    requires late { LATE ≡ true → ArePlain step cells.old }
     ensures here { (i : ℕ) → i < length spots.now →
         Joins (slice_index_or cells.old (first + i) unmet)
         (slice_index_or cells.new (first + i) unmet) step (calm_at spots.now i) }
     ensures others { (c : ℕ) → (c < first) ⊎ (first + length spots.now ≤ c) →
         slice_index_or cells.new c unmet ≡ slice_index_or cells.old c unmet }
     ensures count { length cells.new ≡ length cells.old }
-    ensures early { (last : ℕ) → step ≤ last → AreEarly last cells.old → AreEarly last cells.new }
+    ensures plain { (last : ℕ) → step ≤ last → ArePlain last cells.old → ArePlain last cells.new }
 {
     for (i, spot) in spots.iter().enumerate() {
         join_spot::<LATE>(cells, first + i, step, spot);
     }
 }
 
+#[inline(always)]
 fn join_spot<const LATE: bool>(cells: &mut [Extreme], cell: usize, step: u64, spot: &Spot)
     requires there { cell < length cells.old }
-    requires late { LATE ≡ true → AreEarly step cells.old }
+    requires late { LATE ≡ true → ArePlain step cells.old }
     ensures here { Joins (slice_index_or cells.old cell unmet) (slice_index_or cells.new cell unmet)
         step (calm_point spot.now) }
     ensures others { (c : ℕ) → c ≢ cell →
         slice_index_or cells.new c unmet ≡ slice_index_or cells.old c unmet }
     ensures count { length cells.new ≡ length cells.old }
-    ensures early { (last : ℕ) → step ≤ last → AreEarly last cells.old → AreEarly last cells.new }
+    ensures plain { (last : ℕ) → step ≤ last → ArePlain last cells.old → ArePlain last cells.new }
 {
-    let sample = Sample::of_spot(spot);
-    if !cells[cell].is_settled::<LATE>(step, &sample) {
-        join_new(cells, cell, step, spot);
+    join_head::<LATE>(&mut cells[cell], step, spot.h, 0);
+}
+
+// Joins a head and a volume, taken at a step, to a cell; if `LATE`, no extreme of it stands first at
+// a later one, and the volume is no greater than its greatest.
+#[inline(always)]
+fn join_head<const LATE: bool>(cell: &mut Extreme, step: u64, h: i64, v: i64)
+    requires { LATE ≡ true → IsReady step v cell.old }
+    ensures { IsJoined step h v cell.old cell.new }
+{
+    if h < cell.min {
+        lower::<LATE>(cell, step, h, v);
+    } else if cell.max < h {
+        raise::<LATE>(cell, step, h, v);
+    } else if !(LATE || cell.is_over(step, v)) {
+        join_new(cell, step, h, v);
     }
 }
 
-// As `join_spot`, where something may change.
-#[cold]
-fn join_new(cells: &mut [Extreme], cell: usize, step: u64, spot: &Spot)
-    requires { cell < length cells.old }
-    ensures here { Joins (slice_index_or cells.old cell unmet) (slice_index_or cells.new cell unmet)
-        step (calm_point spot.now) }
-    ensures others { (c : ℕ) → c ≢ cell →
-        slice_index_or cells.new c unmet ≡ slice_index_or cells.old c unmet }
-    ensures count { length cells.new ≡ length cells.old }
-    ensures early { (last : ℕ) → step ≤ last → AreEarly last cells.old → AreEarly last cells.new }
+// As `join_head`, of a head below the least.
+#[inline(always)]
+fn lower<const LATE: bool>(cell: &mut Extreme, step: u64, h: i64, v: i64)
+    requires under { h <ℤ cell.old.min }
+    requires late { LATE ≡ true → IsReady step v cell.old }
+    ensures { IsJoined step h v cell.old cell.new }
 {
-    let sample = Sample::of_spot(spot);
-    cells[cell] = cells[cell].joined(&Extreme::of_one(step, &sample));
+    if LATE && 0 <= cell.volume {
+        cell.min = h;
+        cell.min_step = step;
+    } else {
+        join_new(cell, step, h, v);
+    }
+}
+
+// As `join_head`, of a head over the greatest.
+#[inline(always)]
+fn raise<const LATE: bool>(cell: &mut Extreme, step: u64, h: i64, v: i64)
+    requires over { cell.old.max <ℤ h }
+    requires late { LATE ≡ true → IsReady step v cell.old }
+    ensures { IsJoined step h v cell.old cell.new }
+{
+    if LATE && 0 <= cell.volume {
+        cell.max = h;
+        cell.max_step = step;
+    } else {
+        join_new(cell, step, h, v);
+    }
+}
+
+// As `join_head`, whatever the cell has.
+#[cold]
+#[inline(never)]
+fn join_new(cell: &mut Extreme, step: u64, h: i64, v: i64)
+    ensures { IsJoined step h v cell.old cell.new }
+{
+    *cell = cell.joined(&Extreme::of_one(step, h, v));
 }

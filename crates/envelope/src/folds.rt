@@ -1,6 +1,7 @@
 //! A fold: what is kept of the places of some spans.
-ghost use Rattle.std.specs.Prelude.{◌≡◌, ℕ, ◌+◌, ◌/◌, ◌≤◌, length, slice_index};
-ghost use Rattle.envelope.specs.Calm.{AreEarly};
+ghost use Rattle.std.specs.Prelude.{◌≡◌, ℕ, ◌+◌, ◌/◌, ◌≤◌, length, slice_index, true};
+ghost use Rattle.std.specs.Prelude.{◌≤ℤ◌, pos};
+ghost use Rattle.envelope.specs.Calm.{ArePlain};
 ghost use Rattle.envelope.specs.Cells.{IsRising, bases_of};
 ghost use Rattle.envelope.specs.Lines.{AreWithin, IsMarked, AreLines};
 ghost use Rattle.envelope.specs.Probes.{lines_of, marks_of, places_of};
@@ -23,20 +24,21 @@ pub struct Fold {
     every: u64,
     cells: Vec<Extreme>,
     fault: Option<(u64, u64)>,
-    // No extreme stands first at a later step.
+    // While `plain`, no extreme stands first at a later step, and no volume below 0 was noted.
     latest: u64,
+    plain: bool,
     ghost rising: { IsRising spans.items },
     ghost probed: { AreWithin spans.items (places_of probes) },
     ghost sampled: { 1 ≤ every },
     ghost filled: { length cells.items ≡ slice_index (bases_of spans.items) (length spans.items) },
     ghost marked: { IsMarked spans.items (bases_of spans.items) (places_of probes)
         (length (places_of probes)) (marks_of probes) },
-    ghost early: { AreEarly latest cells.items },
+    ghost early: { plain ≡ true → ArePlain latest cells.items },
     ghost lined: { AreLines (length (places_of probes)) (steps / every + 1) (lines_of probes) },
 }
 
 impl Fold {
-    ghost use Rattle.std.specs.Prelude.{◌≢◌, ◌*◌, ◌<◌, true, false, Option, Some, None, IfOk, map};
+    ghost use Rattle.std.specs.Prelude.{◌≢◌, ◌*◌, ◌<◌, false, Option, Some, None, IfOk, map};
     ghost use Rattle.std.specs.List.{filter};
     ghost use Rattle.case_model.specs.Runs.{calm_point};
     ghost use Rattle.case_model.specs.Samples.{Sample as Taken};
@@ -80,6 +82,7 @@ impl Fold {
             cells: blank_cells(alloc, count)?,
             fault: None,
             latest: 0,
+            plain: true,
         })
     }
 
@@ -260,7 +263,9 @@ impl Fold {
         ensures same { IsSameFold self.old self.new }
     {
         let cell = self.cell(first);
-        self.latest = join_spots(&mut self.cells, self.latest, cell, step, spots);
+        let late = self.is_late(step);
+        join_spots(&mut self.cells, late, cell, step, spots);
+        self.latest = self.latest.max(step);
         if self.probes.is_some() {
             keep_spots(&mut self.probes, cell, step, self.every, spots);
         }
@@ -314,6 +319,13 @@ impl Fold {
         find_cell(&self.spans, place)
     }
 
+    // Whether it is known that no extreme stands first at a later step.
+    fn is_late(&self, step: u64) -> bool
+        ensures { result ≡ true → ArePlain step self.now.cells.items }
+    {
+        self.plain && self.latest <= step
+    }
+
     /// Keeps a sample in a cell, and in the line of samples where the cell has one.
     fn keep_within(&mut self, cell: usize, step: u64, sample: &Sample)
         requires cell { cell < count_of_cells self.old }
@@ -323,8 +335,10 @@ impl Fold {
             IsKeptAt self.old self.new step place (sample_of sample.now) }
         ensures layout { IsSameLayout self.old self.new }
     {
-        join_sample(&mut self.cells, cell, step, sample);
+        let late = self.is_late(step);
+        join_sample(&mut self.cells, cell, late, step, sample);
         self.latest = self.latest.max(step);
+        self.plain = is_still_plain(self.plain, sample.v);
         keep_probed(&mut self.probes, cell, step, self.every, sample);
     }
 
@@ -364,6 +378,22 @@ impl Fold {
         let from = find_cell(&other.spans, place);
         join_cell(&mut self.cells, cell, &other.cells[from]);
         self.latest = self.latest.max(other.latest);
+        self.plain = are_plain(self.plain, other.plain);
         join_probed(&mut self.probes, cell, &other.probes, from);
     }
+}
+
+// Whether none of the volumes is below 0 after this one.
+fn is_still_plain(plain: bool, v: i64) -> bool
+    ensures before { result ≡ true → plain ≡ true }
+    ensures here { result ≡ true → pos 0 ≤ℤ v }
+{
+    plain && 0 <= v
+}
+
+fn are_plain(plain: bool, other: bool) -> bool
+    ensures here { result ≡ true → plain ≡ true }
+    ensures there { result ≡ true → other ≡ true }
+{
+    plain && other
 }

@@ -18,6 +18,7 @@ pub(crate) fn greater(a: Peak, b: Peak) -> Peak
         IsGreatest f last a.value a.step → IsGreatest g last b.value b.step →
         IsGreatest (either f g) last result.value result.step }
     ensures early { (step : ℕ) → a.step ≤ step → b.step ≤ step → result.step ≤ step }
+    ensures over { a.value ≤ℤ result.value }
 {
     if b.value < a.value {
         return a;
@@ -34,6 +35,7 @@ pub(crate) fn lesser(a: Peak, b: Peak) -> Peak
         IsSmallest f last a.value a.step → IsSmallest g last b.value b.step →
         IsSmallest (either f g) last result.value result.step }
     ensures early { (step : ℕ) → a.step ≤ step → b.step ≤ step → result.step ≤ step }
+    ensures under { result.value ≤ℤ a.value }
 {
     if a.value < b.value {
         return a;

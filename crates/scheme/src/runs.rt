@@ -158,7 +158,7 @@ fn explicit_run(
     let mut behind = first_plus(prepared, before);
     let mut here = second_plus(prepared, before);
     for k in 0..now.len() {
-        let ahead = held.both(&before[k + 2]);
+        let ahead = prepared.both(&before[k + 2]);
         match held.meeting(behind, ahead.minus) {
             Some(spot) => now[k] = spot,
             None => return k,

@@ -3,7 +3,7 @@ use Rattle.envelope.proofs.Settled.{joined-more, none-joined}
 use Rattle.envelope.proofs.extremes.join_each.Goals as goal
 
 pub loop-i-init : goal.loop-i-init
-loop-i-init p c = record { joined = none-joined c.args.spots.now c.args.first c.args.step c.args.cells.now; early = λ last l h. h }
+loop-i-init p c = record { joined = none-joined c.args.spots.now c.args.first c.args.step c.args.cells.now; plain = λ last l h. h }
 
 pub loop-i-preserved : goal.loop-i-preserved
 loop-i-preserved p c =
@@ -11,7 +11,7 @@ loop-i-preserved p c =
     record {
       joined = joined-more c.args.spots.now c.args.first c.loop-i.i c.args.step c.args.cells.now c.loop-i.cells c.join_spot.new.cells c.index-spots-i.result
           c.loop-i-test.true c.index-spots-i.is so.joined c.join_spot.ensures.here c.join_spot.ensures.others c.join_spot.ensures.count;
-      early = λ last l h. c.join_spot.ensures.early last l (so.early last l h);
+      plain = λ last l h. c.join_spot.ensures.plain last l (so.plain last l h);
     }
 
 pub returns-clause-here : goal.returns-clause-here
@@ -25,8 +25,8 @@ returns-clause-others p c =
 pub returns-clause-count : goal.returns-clause-count
 returns-clause-count p c = c.loop-i.invariant.joined.count_is
 
-pub returns-clause-early : goal.returns-clause-early
-returns-clause-early p c = c.loop-i.invariant.early
+pub returns-clause-plain : goal.returns-clause-plain
+returns-clause-plain p c = c.loop-i.invariant.plain
 
 pub join_spot-requires-clause-late : goal.join_spot-requires-clause-late
-join_spot-requires-clause-late p c = λ late. c.loop-i.invariant.early c.args.step (omega arith) (c.requires.late late)
+join_spot-requires-clause-late p c = λ late. c.loop-i.invariant.plain c.args.step (omega arith) (c.requires.late late)

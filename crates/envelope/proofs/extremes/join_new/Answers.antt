@@ -1,18 +1,9 @@
-use Rattle.std.proofs.Common.{◌∙◌, sym, subst}
-use Rattle.std.proofs.lemmas.List.{get_or-set_same, get_or_default}
-use Rattle.envelope.specs.Calm.{IsEarly}
-use Rattle.envelope.specs.Extremes.{HasExtreme, either, unmet}
-use Rattle.envelope.proofs.Settled.{early-set, later}
+use Rattle.std.proofs.Common.{arith, to_z-of_z}
+use Rattle.envelope.proofs.Settled.{later}
 use Rattle.envelope.proofs.extremes.join_new.Goals as goal
 
-pub returns-clause-here : goal.returns-clause-here
-returns-clause-here c = λ f g last l a gs gn h.
-    subst (HasExtreme (either f g) last) (sym (get_or-set_same c.args.cells.now c.args.cell c.joined.result unmet c.requires))
-    (c.joined.ensures.taken f g last a (subst (HasExtreme f last) (get_or_default c.args.cells.now c.args.cell unmet _ c.requires) h)
-    (c.of_one.ensures.taken g last l (gs ∙ sym c.of_spot-sample.ensures) gn))
-
-pub returns-clause-early : goal.returns-clause-early
-returns-clause-early c = λ last l h.
-    early-set last c.args.cells.now c.args.cell c.joined.result h c.requires
-    (c.joined.ensures.early last (subst (IsEarly last) (get_or_default c.args.cells.now c.args.cell unmet _ c.requires) (h c.args.cell))
-    (later c.args.step last _ l c.of_one.ensures.early))
+pub returns : goal.returns
+returns c = record {
+  here = λ x xh xv f g last l a gs gn p. c.joined.ensures.taken f g last a p (c.of_one.ensures.taken x g last (grind (arith, to_z-of_z)) (grind (arith, to_z-of_z)) l gs gn);
+  plain = λ last l o p. c.joined.ensures.plain last p (later c.args.step last _ l (c.of_one.ensures.plain (grind (arith, to_z-of_z))));
+}

@@ -1,4 +1,4 @@
-use Rattle.std.proofs.Common.{length, refl, sym, subst, arith}
+use Rattle.std.proofs.Common.{length, refl, sym, subst, arith, to_z-of_z}
 use Rattle.envelope.specs.Cells.{bases_of}
 use Rattle.envelope.specs.Extremes.{either}
 use Rattle.envelope.specs.Folds.{probes_of}
@@ -40,7 +40,7 @@ pub invariant_of-self-clause-early : goal.invariant_of-self-clause-early
 invariant_of-self-clause-early c =
     let o = c.args.self.now in
     let m = c.max-self.ensures in
-    c.join_sample.ensures.early c.max-self.result (omega arith) (all-later o.latest c.max-self.result o.cells.items (omega arith) o.early)
+    λ t. c.join_sample.ensures.plain c.max-self.result (omega arith) (let q = c.is_still_plain-self.ensures.here t in grind (arith, to_z-of_z)) (all-later o.latest c.max-self.result o.cells.items (omega arith) (o.early (c.is_still_plain-self.ensures.before t)))
 
 pub invariant_of-self-clause-probed : goal.invariant_of-self-clause-probed
 invariant_of-self-clause-probed c =

@@ -1,6 +1,6 @@
 use Rattle.std.proofs.Common.{◌∙◌, refl, sym, subst, arith}
 use Rattle.std.proofs.lemmas.List.{get_or_default}
-use Rattle.envelope.specs.Calm.{IsEarly}
+use Rattle.envelope.specs.Calm.{IsPlain}
 use Rattle.envelope.specs.Cells.{bases_of}
 use Rattle.envelope.specs.Extremes.{either, unmet}
 use Rattle.envelope.specs.Lines.{AreWithin}
@@ -58,8 +58,8 @@ invariant_of-self-clause-early c =
     let m = c.max-self.ensures in
     let last = c.max-self.result in
     let l = cell-filled r _ from c.deref-2.ensures.value c.find_cell-from.ensures.inside in
-    c.join_cell.ensures.early last (all-later o.latest last o.cells.items (omega arith) o.early)
-    (subst (IsEarly last) (sym (c.index.ensures ∙ get_or_default r.cells.items from _ unmet l)) (later r.latest last _ (omega arith) (r.early from)))
+    λ t. c.join_cell.ensures.plain last (all-later o.latest last o.cells.items (omega arith) (o.early (c.are_plain-self.ensures.here t)))
+    (subst (IsPlain last) (sym (c.index.ensures ∙ get_or_default r.cells.items from _ unmet l)) (later r.latest last _ (omega arith) (r.early (c.are_plain-self.ensures.there t) from)))
 
 pub invariant_of-self-clause-probed : goal.invariant_of-self-clause-probed
 invariant_of-self-clause-probed c =
