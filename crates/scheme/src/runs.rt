@@ -153,13 +153,11 @@ fn explicit_run(
     ensures run { let law = meaning_of case.now mesh.now in
         IsCalmRun law at.pipe at.place before.now result now.old now.new }
 {
-    // A copy, which the loop keeps in registers.
-    let held = *prepared;
     let mut behind = first_plus(prepared, before);
     let mut here = second_plus(prepared, before);
     for k in 0..now.len() {
         let ahead = prepared.both(&before[k + 2]);
-        match held.meeting(behind, ahead.minus) {
+        match prepared.meeting(behind, ahead.minus) {
             Some(spot) => now[k] = spot,
             None => return k,
         }
