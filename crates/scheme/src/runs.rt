@@ -132,7 +132,8 @@ fn single_place(
     }
 }
 
-// Each place gives both of its characteristics at once, and C+ is carried on to where it is needed.
+// Each place gives both of its characteristics at once, and C+ is carried on to where it is needed:
+// two places a turn, so that nothing moves from one place to the next.
 #[inline(never)]
 fn explicit_run(
     case: &Case,
@@ -155,14 +156,29 @@ fn explicit_run(
 {
     let mut behind = first_plus(prepared, before);
     let mut here = second_plus(prepared, before);
-    for k in 0..now.len() {
+    let mut k = 0;
+    while k + 1 < now.len() {
+        let next = prepared.both(&before[k + 2]);
+        match prepared.meeting(behind, next.minus) {
+            Some(spot) => now[k] = spot,
+            None => return k,
+        }
+        let ahead = prepared.both(&before[k + 3]);
+        match prepared.meeting(here, ahead.minus) {
+            Some(spot) => now[k + 1] = spot,
+            None => return k + 1,
+        }
+        behind = next.plus;
+        here = ahead.plus;
+        k += 2;
+    }
+    // An odd count leaves one place.
+    if k < now.len() {
         let ahead = prepared.both(&before[k + 2]);
         match prepared.meeting(behind, ahead.minus) {
             Some(spot) => now[k] = spot,
             None => return k,
         }
-        behind = here;
-        here = ahead.plus;
     }
     now.len()
 }
