@@ -1,6 +1,6 @@
 -- Runs of places of a pipe: the vapour head of its higher end, the law of a place by what a run knows,
 -- and how friction is taken.
-use Rattle.std.proofs.Common.{List, [], ◌∷◌, ◌++◌, length, subst, get_or, refl, not, IsTrue, inl, inr, length-append, ℕ, ◌+◌, ◌<◌, ◌≤◌, ◌≡◌, ap, sym, ◌∙◌, arith, ℤ, pos, ◌+ℤ◌, ◌-ℤ◌, ◌*ℤ◌, ◌≤ℤ◌, unsigned_abs, w64, of_z, to_z}
+use Rattle.std.proofs.Common.{List, [], ◌∷◌, ◌++◌, length, subst, get_or, set, refl, not, IsTrue, inl, inr, length-append, ℕ, ◌+◌, ◌<◌, ◌≤◌, ◌≡◌, ap, sym, ◌∙◌, arith, ℤ, pos, ◌+ℤ◌, ◌-ℤ◌, ◌*ℤ◌, ◌≤ℤ◌, unsigned_abs, w64, of_z, to_z}
 use Rattle.std.specs.Int.{int_max, w128}
 use Rattle.std.proofs.lemmas.Int.{ints, to_z-of_z}
 use Rattle.fixed_num.specs.Rounding.{rnd}
@@ -11,18 +11,18 @@ use Rattle.case_model.specs.declared.cases.Friction.TheVariants.{Explicit, Linea
 use Rattle.case_model.specs.declared.meshes.Mesh.{Mesh}
 use Rattle.case_model.specs.declared.points.Point.{Point}
 use Rattle.case_model.specs.declared.spots.Spot.{Spot}
-use Rattle.case_model.specs.Runs.{calm_at, calm_point}
+use Rattle.case_model.specs.Runs.{IsCalmRun, calm_at, calm_point}
 use Rattle.case_model.specs.Division.{vapour_head}
 use Rattle.case_model.specs.Formulas.{elevation_between}
 use Rattle.case_model.specs.Mesh.{reaches}
-use Rattle.case_model.proofs.Running.{calm_spot}
+use Rattle.case_model.proofs.Running.{calm_spot, one_more}
 use Rattle.charline.specs.Characteristics.{IsImpedance, IsResistance}
 use Rattle.charline.proofs.Sizes.{fits_wide}
 use Rattle.charline.specs.Interior.{inner_point}
 use Rattle.charline.specs.Runs.{IsPlus, IsMinus, IsCalmSpot}
 use Rattle.scheme.specs.Arrivals.{impedance}
 use Rattle.scheme.specs.Values.{rule_at}
-use Rattle.scheme.specs.Laws.{inner_law}
+use Rattle.scheme.specs.Laws.{inner_law, meaning_of}
 use Rattle.scheme.specs.Runs.{IsOfPipe, is_explicit, IsPreparedFor, ArePrepared}
 use Rattle.scheme.specs.declared.prepared.PreparedPipe.{PreparedPipe}
 use Rattle.scheme.specs.declared.prepared.PreparedPipe.TheVariants.{Explicit as InWords, Linear as Linearly, Wide}
@@ -53,6 +53,19 @@ calm_is case mesh p i b r top plus minus left right own next e of_pipe h ip im f
     ∙ ap (λ (x : ℤ). inner_point case.friction law x (pos r) left (calm_point own) right) of_pipe.impeded
     ∙ ap (λ (x : ℤ). inner_point case.friction law (impedance mesh p) x left (calm_point own) right) of_pipe.resisted
 
+-- a run with one place more, between two characteristics
+pub run_more : (case : Case) (mesh : Mesh) (p first k b r : ℕ) (top plus minus : ℤ) (before old new : List Spot) (x : Spot) → case.friction ≡ Explicit → IsOfPipe case mesh p b r top → first + k < reaches mesh p
+    → k < length new → k + 2 < length before
+    → IsPlus b r (calm_at before k) plus → IsMinus b r (calm_at before (k + 2)) minus → IsCalmSpot b r top plus minus x
+    → IsCalmRun (meaning_of case mesh) p first before k old new → IsCalmRun (meaning_of case mesh) p first before (k + 1) old (set new k x)
+unfolding meaning_of
+run_more case mesh p first k b r top plus minus before old new x e of_pipe h inside there ip im f run =
+    let law : Point → Point → Point → Point = inner_law case mesh p (first + k) in
+    let own : Spot = get_or before (k + 1) x in
+    one_more (meaning_of case mesh) p first before k old new x inside
+    (calm_is case mesh p (first + k) b r top plus minus (calm_at before k) (calm_at before (k + 2)) own x e of_pipe h ip im f
+    ∙ ap (λ (q : Point). law (calm_at before k) q (calm_at before (k + 2))) (sym (calm_spot before (k + 1) x (omega arith)))) run
+
 -- a value of C+ as it stands in a word, of a place of the list
 pub kept : (b r : ℕ) (spots : List Spot) (k : ℕ) (d x : Spot) (c : ℤ) → k < length spots → x ≡ get_or spots k d → IsPlus b r (calm_point x) c → IsPlus b r (calm_at spots k) (to_z w64 (of_z w64 c))
 kept b r spots k d x c h e p =
@@ -70,6 +83,9 @@ pub minus_at : (b r : ℕ) (spots : List Spot) (k : ℕ) (d x : Spot) (c : ℤ) 
 minus_at b r spots k d x c h e p =
     let at : calm_point x ≡ calm_at spots k = ap calm_point e ∙ sym (calm_spot spots k d h) in
     subst (λ (q : Point). IsMinus b r q c) at p
+
+pub kept_minus : (b r : ℕ) (spots : List Spot) (k : ℕ) (d x : Spot) (c : ℤ) → k < length spots → x ≡ get_or spots k d → IsMinus b r (calm_point x) c → IsMinus b r (calm_at spots k) (to_z w64 (of_z w64 c))
+kept_minus b r spots k d x c h e p = stored_minus b r (calm_at spots k) c (minus_at b r spots k d x c h e p)
 
 -- what a pipe has, as it stands in words
 pub impeded_as : (n : ℕ) (b x : ℤ) → IsImpedance b → n ≡ unsigned_abs (to_z w64 (of_z w64 b)) → b ≡ x → pos n ≡ x

@@ -132,7 +132,8 @@ fn single_place(
     }
 }
 
-// Each place gives both of its characteristics at once, and C+ is carried on to where it is needed.
+// Each place gives both of its characteristics at once, and C+ is carried on to where it is needed:
+// two places a turn, so that nothing moves from one place to the next.
 #[inline(never)]
 fn explicit_run(
     case: &Case,
@@ -153,18 +154,31 @@ fn explicit_run(
     ensures run { let law = meaning_of case.now mesh.now in
         IsCalmRun law at.pipe at.place before.now result now.old now.new }
 {
-    // A copy, which the loop keeps in registers.
-    let held = *prepared;
     let mut behind = first_plus(prepared, before);
     let mut here = second_plus(prepared, before);
-    for k in 0..now.len() {
-        let ahead = prepared.both(&before[k + 2]);
-        match held.meeting(behind, ahead.minus) {
+    let mut k = 0;
+    while k + 1 < now.len() {
+        let next = prepared.both(&before[k + 2]);
+        match prepared.meeting(behind, next.minus) {
             Some(spot) => now[k] = spot,
             None => return k,
         }
-        behind = here;
+        let ahead = prepared.both(&before[k + 3]);
+        match prepared.meeting(here, ahead.minus) {
+            Some(spot) => now[k + 1] = spot,
+            None => return k + 1,
+        }
+        behind = next.plus;
         here = ahead.plus;
+        k += 2;
+    }
+    // An odd count leaves one place.
+    if k < now.len() {
+        let ahead = prepared.both(&before[k + 2]);
+        match prepared.meeting(behind, ahead.minus) {
+            Some(spot) => now[k] = spot,
+            None => return k,
+        }
     }
     now.len()
 }

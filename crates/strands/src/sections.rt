@@ -165,7 +165,11 @@ fn advance_any_region<L: Law>(
     stands_for_equal_maps();
     let last = stretch.count() - 1;
     for k in window / 2 + 1..window + last / 2 + 1 {
-        let low = (window + 1).saturating_sub(k).max(k.saturating_sub(window));
+        let low = if k <= window {
+            window + 1 - k
+        } else {
+            k - window
+        };
         advance(law, stretch, fold, start + (k - 1) as u64, low, k);
     }
 }

@@ -1,4 +1,4 @@
-use Rattle.std.proofs.Common.{◌+◌, ℕ, ℤ, List}
+use Rattle.std.proofs.Common.{◌+◌, ◌-◌, ◌≤◌, ℕ, ℤ, List, length}
 use Rattle.case_model.specs.declared.spots.Spot.{Spot}
 use Rattle.case_model.specs.Meaning.{Meaning}
 use Rattle.case_model.specs.Runs.{IsCalmRun, calm_at}
@@ -13,5 +13,10 @@ pub record IsSo (law : Meaning) (p first : ℕ) (before : List Spot) (k : ℕ) (
   pub own : IsPlus b r (calm_at before (k + 1)) here
 
 abbrev pub invariant-loop-k : goal.invariant-loop-k
-invariant-loop-k l =
-    IsSo (meaning_of l.case l.mesh) l.fn.at.pipe l.fn.at.place l.before l.k l.fn.now l.now l.prepared.b l.prepared.r l.behind l.here
+invariant-loop-k l = record {
+  so : IsSo (meaning_of l.case l.mesh) l.fn.at.pipe l.fn.at.place l.before l.k l.fn.now l.now l.prepared.b l.prepared.r l.behind l.here;
+  most : l.k ≤ length l.now;
+}
+
+abbrev pub decreases-loop-k : goal.decreases-loop-k
+decreases-loop-k l = length l.now - l.k

@@ -4,6 +4,7 @@ use Rattle.fronts.specs.Stretches.{count_of}
 use Rattle.strands.specs.Sections.{IsAdvanced}
 use Rattle.strands.proofs.Advancing.{advanced-end, advanced-none, notes-same, region-more}
 use Rattle.strands.proofs.Marking.{same-line}
+use Rattle.strands.proofs.sections.advance_any_region.Goals.{then-k-window, else-k-window}
 use Rattle.strands.proofs.sections.advance_any_region.Goals as goal
 
 pub loop-k-init : goal.loop-k-init
@@ -29,9 +30,12 @@ loop-k-preserved g c =
     let k = c.loop-k.k in
     let old = c.args.stretch.now in
     let new = c.advance.new.stretch in
-    let low = c.max-low.result in
+    let low = c.if-k-window.low in
     let size : count_of old ≡ n + 1 = omega (arith, c.requires.long) in
-    let e : low ≡ max (w + 1 - k) (k - w) = omega (arith, c.max-low.ensures, c.saturating_sub.ensures, c.saturating_sub-in-loop-k.ensures) in
+    let e : low ≡ max (w + 1 - k) (k - w) = elim c.if-k-window.branch [
+      | then-k-window x ↦ omega (arith, x.low-is, x.if-k-window.true)
+      | else-k-window x ↦ omega (arith, x.low-is, x.if-k-window.false)
+    ] in
     let j : k ≡ k + 1 - 1 = omega arith in
     subst (λ i. IsAdvanced law ever (loaded s w n) (swept s w n i) old new c.args.fold.now c.advance.new.fold) j
     (region-more law s w n k low old c.loop-k.stretch new c.args.fold.now c.loop-k.fold c.advance.new.fold size
