@@ -4,7 +4,7 @@ use Rattle.fronts.specs.Fronts.{Holds}
 use Rattle.fronts.specs.Stretches.{AreSamePlaces}
 use Rattle.strands.specs.Beside.{outer_side, taken_front, taken_since}
 use Rattle.strands.specs.Blocks.{HasPoints}
-use Rattle.strands.proofs.besides.load_any_beside.Given as goal
+use Rattle.strands.proofs.besides.load_each.Given as goal
 
 abbrev pub invariant-loop-distance : goal.invariant-loop-distance
 invariant-loop-distance g l = record {

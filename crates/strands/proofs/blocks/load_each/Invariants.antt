@@ -3,7 +3,7 @@ use Rattle.case_model.specs.Meaning.{Meaning}
 use Rattle.fronts.specs.Fronts.{Holds, ever}
 use Rattle.fronts.specs.Stretches.{AreSamePlaces, count_of}
 use Rattle.strands.specs.Blocks.{HasPoints, IsBare, loading, station_side}
-use Rattle.strands.proofs.blocks.load_any_side.Given as goal
+use Rattle.strands.proofs.blocks.load_each.Given as goal
 
 abbrev pub invariant-loop-distance : goal.invariant-loop-distance
 invariant-loop-distance g l = record {
