@@ -1,6 +1,7 @@
 -- Points of a block that are laid into a stretch all at once.
 use Rattle.std.specs.Prelude.{◌==◌, ◌%◌, not}
-use Rattle.std.proofs.Common.{◌≡◌, ℕ, ◌+◌, ◌-◌, ◌*◌, ◌/◌, ◌<◌, ◌≤◌, ◌⊎◌, inl, inr, ◌∙◌, ap, sym, refl, arith, Bool, true, false, if◌then◌else◌}
+use Rattle.std.proofs.Common.{◌≡◌, ℕ, ◌+◌, ◌-◌, ◌*◌, ◌/◌, ◌<◌, ◌≤◌, ◌⊎◌, inl, inr, ◌∙◌, ap, sym}
+use Rattle.std.proofs.Common.{refl, arith, Bool, true, false, if◌then◌else◌}
 use Rattle.std.proofs.Math.Bool.{and-false, beq}
 use Rattle.std.proofs.lemmas.Bool.{eq-eqb, le-leb, le-ltb, lt-leb, lt-ltb, ne_eqb, cases_lt}
 use Rattle.case_model.specs.declared.points.Point.{Point}
@@ -15,8 +16,10 @@ use Rattle.fronts.proofs.Stepping.{next-parity}
 use Rattle.strands.proofs.Loading.{loaded-in, loaded-out, place-is, point-first, point-second}
 use Rattle.strands.proofs.Pairing.{earlier-step, later-step}
 use Rattle.strands.proofs.Taking.{IsNear, nearer, outer-first, outer-second}
-use Rattle.strands.specs.Beside.{HasBeside, beside, is_beside, outer_side, station_tells, taken_front, taken_since}
-use Rattle.strands.specs.Blocks.{HasPoints, from_end, loading, section_tells, station_side, station_step}
+use Rattle.strands.specs.Beside.{HasBeside, beside, is_beside, outer_side, station_tells}
+use Rattle.strands.specs.Beside.{taken_front, taken_since}
+use Rattle.strands.specs.Blocks.{HasPoints, from_end, loading, section_tells, station_side}
+use Rattle.strands.specs.Blocks.{station_step}
 use Rattle.strands.specs.Laid.{AreLaid, in_turn}
 use Rattle.strands.specs.declared.handed.SectionBlock.{SectionBlock}
 use Rattle.strands.specs.declared.handed.StationBlock.{StationBlock}
@@ -75,7 +78,8 @@ pub if-false : (b : Bool) (x a c : ℕ) → b ≡ false → x ≡ c → x ≡ (i
 if-false b x a c e h = rw e h
 
 -- a step of the first parity, and one that stands so many places on
-same-step : (t i a b : ℕ) → is_even (t + i) ≡ is_even a → (b + i) % 2 ≡ a % 2 → is_even t ≡ is_even b
+same-step : (t i a b : ℕ) → is_even (t + i) ≡ is_even a → (b + i) % 2 ≡ a % 2
+    → is_even t ≡ is_even b
 same-step t i a b e h =
     let r : (t + i) % 2 ≡ a % 2 = rest-of (t + i) a e in
     even-of t b (omega arith)
@@ -89,28 +93,33 @@ turn-below : (up : Bool) (count i : ℕ) → i < count → (if up then i else co
 turn-below true count i h = h
 turn-below false count i h = omega arith
 
-section-place : (up : Bool) (n from count i : ℕ) → from ≡ (if up then 1 else n - count) → i < count → count ≤ n
+section-place : (up : Bool) (n from count i : ℕ) → from ≡ (if up then 1 else n - count) → i < count
+    → count ≤ n
     → in_turn up from count i ≡ from_end up n (i + 1)
 section-place true n from count i e h b = omega arith
 section-place false n from count i e h b = omega arith
 
-station-place : (up : Bool) (at from count i : ℕ) → from ≡ (if up then at else at + 1 - count) → i < count
+station-place : (up : Bool) (at from count i : ℕ) → from ≡ (if up then at else at + 1 - count)
+    → i < count
     → (if up then 0 else count) ≤ at + 1 → in_turn up from count i ≡ beside up at i
 station-place true at from count i e h b = omega arith
 station-place false at from count i e h b = omega arith
 
-pub section-laid : (block : SectionBlock) (up even : Bool) (lowest from count : ℕ) (old new : Stretch)
+pub section-laid : (block : SectionBlock) (up even : Bool) (lowest from count : ℕ)
+    (old new : Stretch)
     → up ≡ (block.left == 1) → even ≡ is_even block.start
     → from ≡ (if up then 1 else count_of block.stretch.now - 1 - count)
     → 2 * count ≤ block.window → block.window + 1 ≤ count_of block.stretch.now
-    → IsTaken lowest block.stretch.now from count old new → AreLaid up even lowest count (section_tells block) old new
+    → IsTaken lowest block.stretch.now from count old new
+    → AreLaid up even lowest count (section_tells block) old new
 unfolding section_tells
 section-laid block up even lowest from count old new eu ee ef few long p =
     let other = block.stretch.now in
     let n = count_of other - 1 in
     let s = block.start in
     let read : (t i j : ℕ) → i < count → j / 2 ≡ i → is_even t ≡ is_even (s + (j + 1) / 2)
-    → kept new t (in_turn up lowest count i) ≡ kept other (s + (j + 1) / 2) (from_end (block.left == 1) n (j / 2 + 1)) =
+    → kept new t (in_turn up lowest count i) ≡ kept other (s + (j + 1) / 2)
+    (from_end (block.left == 1) n (j / 2 + 1)) =
     λ t i j b half par.
     p.taken t (if up then i else count - 1 - i) (turn-below up count i b)
     ∙ ap (kept other t) (section-place up n from count i ef b (omega arith))
@@ -119,18 +128,22 @@ section-laid block up even lowest from count old new eu ee ef few long p =
     ∙ ap (λ z. kept other (s + (j + 1) / 2) (from_end (block.left == 1) n (z + 1))) (sym half) in
     record {
       earlier = λ t i point b e told.
-          read t i (2 * i) b (omega arith) (same-step t i s (s + (2 * i + 1) / 2) (e ∙ ee) (omega arith)) ∙ told;
+          read t i (2 * i) b (omega arith)
+          (same-step t i s (s + (2 * i + 1) / 2) (e ∙ ee) (omega arith)) ∙ told;
       later = λ t i point b e told.
           let e' : is_even (t + (i + 1)) ≡ is_even s = ap is_even (omega arith) ∙ e ∙ ee in
-          read t i (2 * i + 1) b (omega arith) (same-step t (i + 1) s (s + (2 * i + 1 + 1) / 2) e' (omega arith)) ∙ told;
+          read t i (2 * i + 1) b (omega arith)
+          (same-step t (i + 1) s (s + (2 * i + 1 + 1) / 2) e' (omega arith)) ∙ told;
       rest = p.rest;
     }
 
-pub station-laid : (block : StationBlock) (up even : Bool) (lowest from count : ℕ) (old new : Stretch)
+pub station-laid : (block : StationBlock) (up even : Bool) (lowest from count : ℕ)
+    (old new : Stretch)
     → up ≡ (block.right == 1) → even ≡ is_even (block.start + block.window + 1)
     → from ≡ (if up then block.at else block.at + 1 - count) → 2 * count ≤ block.window
     → (if block.right == 1 then 0 else (block.window - 1) / 2) ≤ block.at
-    → IsTaken lowest block.stretch.now from count old new → AreLaid up even lowest count (station_tells block) old new
+    → IsTaken lowest block.stretch.now from count old new
+    → AreLaid up even lowest count (station_tells block) old new
 unfolding station_tells
 station-laid block up even lowest from count old new eu ee ef few behind p =
     let other = block.stretch.now in
@@ -138,23 +151,29 @@ station-laid block up even lowest from count old new eu ee ef few behind p =
     let s = block.start in
     let w = block.window in
     let read : (t i j : ℕ) → i < count → j / 2 ≡ i → is_even t ≡ is_even (s + station_step w j)
-    → kept new t (in_turn up lowest count i) ≡ kept other (s + station_step w j) (beside (block.right == 1) at (j / 2)) =
+    → kept new t (in_turn up lowest count i) ≡ kept other (s + station_step w j)
+    (beside (block.right == 1) at (j / 2)) =
     λ t i j b half par.
     p.taken t (if up then i else count - 1 - i) (turn-below up count i b)
-    ∙ ap (kept other t) (station-place up at from count i ef b (room up (block.right == 1) count at eu (omega arith) behind))
+    ∙ ap (kept other t) (station-place up at from count i ef b
+    (room up (block.right == 1) count at eu (omega arith) behind))
     ∙ ap (λ (z : Bool). kept other t (beside z at i)) eu
     ∙ ap (λ z. kept_in other z (beside (block.right == 1) at i)) par
     ∙ ap (λ z. kept other (s + station_step w j) (beside (block.right == 1) at z)) (sym half) in
     record {
       earlier = λ t i point b e told.
-          let step : s + (w - 1 - i) ≡ s + station_step w (2 * i) = earlier-step w s i (omega arith) in
+          let step : s + (w - 1 - i) ≡ s + station_step w (2 * i) = earlier-step w s i (omega arith)
+          in
           read t i (2 * i) b (omega arith)
           (same-step t i (s + w + 1) (s + station_step w (2 * i)) (e ∙ ee) (omega arith)) ∙ told;
       later = λ t i point b e told.
-          let step : s + (w - 1 - i) + 1 ≡ s + station_step w (2 * i + 1) = later-step w s i (omega arith) in
-          let e' : is_even (t + (i + 1)) ≡ is_even (s + w + 1) = ap is_even (omega arith) ∙ e ∙ ee in
+          let step : s + (w - 1 - i) + 1 ≡ s + station_step w (2 * i + 1) = later-step w s i
+          (omega arith) in
+          let e' : is_even (t + (i + 1)) ≡ is_even (s + w + 1) = ap is_even (omega arith) ∙ e
+          ∙ ee in
           read t i (2 * i + 1) b (omega arith)
-          (same-step t (i + 1) (s + w + 1) (s + station_step w (2 * i + 1)) e' (omega arith)) ∙ told;
+          (same-step t (i + 1) (s + w + 1) (s + station_step w (2 * i + 1)) e' (omega arith))
+          ∙ told;
       rest = p.rest;
     }
   where
@@ -167,62 +186,83 @@ station-laid block up even lowest from count old new eu ee ef few behind p =
 
 -- ---- what a section takes in of a station
 
-turn-end : (left : Bool) (n lowest count x : ℕ) → lowest ≡ (if left then 0 else n + 1 - count) → x ≤ n → count ≤ n
+turn-end : (left : Bool) (n lowest count x : ℕ) → lowest ≡ (if left then 0 else n + 1 - count)
+    → x ≤ n → count ≤ n
     → from_end left n x < count → in_turn left lowest count (from_end left n x) ≡ x
 turn-end true n lowest count x e a b h = omega arith
 turn-end false n lowest count x e a b h = omega arith
 
-past-end : (left : Bool) (n lowest count x : ℕ) → lowest ≡ (if left then 0 else n + 1 - count) → x ≤ n
+past-end : (left : Bool) (n lowest count x : ℕ) → lowest ≡ (if left then 0 else n + 1 - count)
+    → x ≤ n
     → count ≤ from_end left n x → (x < lowest) ⊎ (lowest + count ≤ x)
 past-end true n lowest count x e a h = inr (omega arith)
 past-end false n lowest count x e a h = inl (omega arith)
 
-pub side-laid : (law : Meaning) (old new : Stretch) (left even : Bool) (n w s lowest count : ℕ) (tells : ℕ → Point → Type 0) (front : ℕ → ℕ)
-    → count_of old ≡ n + 1 → w ≤ n → 2 * count ≤ w → lowest ≡ (if left then 0 else n + 1 - count) → even ≡ is_even (s + w + 1)
-    → AreSamePlaces old new → AreLaid left even lowest count tells old new → HasPoints w (station_side law old left w s) tells
+pub side-laid : (law : Meaning) (old new : Stretch) (left even : Bool) (n w s lowest count : ℕ)
+    (tells : ℕ → Point → Type 0) (front : ℕ → ℕ)
+    → count_of old ≡ n + 1 → w ≤ n → 2 * count ≤ w → lowest ≡ (if left then 0 else n + 1 - count)
+    → even ≡ is_even (s + w + 1)
+    → AreSamePlaces old new → AreLaid left even lowest count tells old new
+    → HasPoints w (station_side law old left w s) tells
     → Holds law ever front old → Holds law ever (loading left n w s count front) new
-side-laid law old new left even n w s lowest count tells front size long few low par same laid has h = record {
-  cell = λ t x b z f g.
-      let n-same : count_of new ≡ count_of old = same.count_is in
-      let m = same-spot law old new t x same in
-      let d = from_end left n x in
-      elim (cases_lt d count) [
-        | inl c ↦
-            let q : loading left n w s count front x ≡ s + w - d = loaded-in left n w s count front x c in
-            let at : x ≡ from_end left n d = place-is left n d x (omega arith) (omega arith) refl in
-            let here = turn-end left n lowest count x low (omega arith) (omega arith) c in
-            elim (one-of t (s + (w - d) - 1) (omega arith) (omega arith)) [
-              | inl k ↦
-                  point-first law old left n w s d x tells (kept new t x) size (omega arith) at has
-                  (λ p told. ap (kept new t) (sym here) ∙ laid.earlier t d p c (even-of (t + d) (s + w + 1) (omega arith) ∙ sym par) told)
-                  ∙ ap (λ y. spot law old y x) (sym k) ∙ sym m
-              | inr k ↦
-                  point-second law old left n w s d x tells (kept new t x) size (omega arith) at has
-                  (λ p told. ap (kept new t) (sym here) ∙ laid.later t d p c (even-of (t + d + 1) (s + w + 1) (omega arith) ∙ sym par) told)
-                  ∙ ap (λ y. spot law old y x) (omega arith) ∙ sym m
-            ]
-        | inr c ↦
-            let q : loading left n w s count front x ≡ front x = loaded-out left n w s count front x c in
-            laid.rest t x (past-end left n lowest count x low (omega arith) c)
-            ∙ h.cell t x (omega arith) z (omega arith) (omega arith) ∙ sym m
-      ];
-}
+side-laid law old new left even n w s lowest count tells front size long few low par same laid has
+    h = record {
+      cell = λ t x b z f g.
+          let n-same : count_of new ≡ count_of old = same.count_is in
+          let m = same-spot law old new t x same in
+          let d = from_end left n x in
+          elim (cases_lt d count) [
+            | inl c ↦
+                let q : loading left n w s count front x ≡ s + w - d = loaded-in left n w s count
+                front
+                x c in
+                let at : x ≡ from_end left n d = place-is left n d x (omega arith) (omega arith)
+                refl in
+                let here = turn-end left n lowest count x low (omega arith) (omega arith) c in
+                elim (one-of t (s + (w - d) - 1) (omega arith) (omega arith)) [
+                  | inl k ↦
+                      point-first law old left n w s d x tells (kept new t x) size (omega arith) at
+                      has
+                      (λ p told. ap (kept new t) (sym here)
+                      ∙ laid.earlier t d p c (even-of (t + d) (s + w + 1) (omega arith) ∙ sym par)
+                      told)
+                      ∙ ap (λ y. spot law old y x) (sym k) ∙ sym m
+                  | inr k ↦
+                      point-second law old left n w s d x tells (kept new t x) size (omega arith) at
+                      has
+                      (λ p told. ap (kept new t) (sym here)
+                      ∙ laid.later t d p c (even-of (t + d + 1) (s + w + 1) (omega arith) ∙ sym par)
+                      told)
+                      ∙ ap (λ y. spot law old y x) (omega arith) ∙ sym m
+                ]
+            | inr c ↦
+                let q : loading left n w s count front x ≡ front x = loaded-out left n w s count
+                front x
+                c in
+                laid.rest t x (past-end left n lowest count x low (omega arith) c)
+                ∙ h.cell t x (omega arith) z (omega arith) (omega arith) ∙ sym m
+          ];
+    }
 
 -- ---- what a station takes in of a section
 
 -- a place is one of those that are taken in, or another
 data Where (right : Bool) (at count lowest x : ℕ) : Type 0 where
-  Inside : is_beside right at count x ≡ true → 1 ≤ from_place at x → from_place at x ≤ count → x ≡ beside right at (from_place at x)
+  Inside : is_beside right at count x ≡ true → 1 ≤ from_place at x → from_place at x ≤ count
+      → x ≡ beside right at (from_place at x)
       → in_turn right lowest count (from_place at x - 1) ≡ x → Where right at count lowest x
-  Outside : is_beside right at count x ≡ false → (x < lowest) ⊎ (lowest + count ≤ x) → Where right at count lowest x
+  Outside : is_beside right at count x ≡ false → (x < lowest) ⊎ (lowest + count ≤ x)
+      → Where right at count lowest x
 
-where-is : (right : Bool) (at count lowest size x : ℕ) → lowest ≡ (if right then at + 1 else at - count) → HasBeside right at count size
+where-is : (right : Bool) (at count lowest size x : ℕ)
+    → lowest ≡ (if right then at + 1 else at - count) → HasBeside right at count size
     → Where right at count lowest x
 where-is true at count lowest size x e h = elim (cases_lt at x) [
   | inr b ↦ Outside (rw (le-ltb at x b) refl) (inl (omega arith))
   | inl b ↦ elim (cases_lt (at + count) x) [
     | inl c ↦ Outside (rw (lt-leb x (at + count) c, and-false) refl) (inr (omega arith))
-    | inr c ↦ Inside (rw (lt-ltb at x b, le-leb x (at + count) c) refl) (omega arith) (omega arith) (omega arith) (omega arith)
+    | inr c ↦ Inside (rw (lt-ltb at x b, le-leb x (at + count) c) refl) (omega arith) (omega arith)
+        (omega arith) (omega arith)
   ]
 ]
 where-is false at count lowest size x e h =
@@ -231,19 +271,24 @@ where-is false at count lowest size x e h =
       | inr b ↦ Outside (rw (le-ltb x at b) refl) (inr (omega arith))
       | inl b ↦ elim (cases_lt (x + count) at) [
         | inl c ↦ Outside (rw (lt-leb at (x + count) c, and-false) refl) (inl (omega arith))
-        | inr c ↦ Inside (rw (lt-ltb x at b, le-leb at (x + count) c) refl) (omega arith) (omega arith) (omega arith) (omega arith)
+        | inr c ↦ Inside (rw (lt-ltb x at b, le-leb at (x + count) c) refl) (omega arith)
+            (omega arith) (omega arith) (omega arith)
       ]
     ]
 
-pub beside-laid : (law : Meaning) (old new : Stretch) (right even : Bool) (at w s lowest count : ℕ) (tells : ℕ → Point → Type 0)
+pub beside-laid : (law : Meaning) (old new : Stretch) (right even : Bool) (at w s lowest count : ℕ)
+    (tells : ℕ → Point → Type 0)
     (since front : ℕ → ℕ) → HasBeside right at count (count_of old) → 2 * count ≤ w
     → lowest ≡ (if right then at + 1 else at - count) → even ≡ is_even s
-    → AreSamePlaces old new → AreLaid right even lowest count tells old new → HasPoints w (outer_side law old right at s) tells
+    → AreSamePlaces old new → AreLaid right even lowest count tells old new
+    → HasPoints w (outer_side law old right at s) tells
     → Holds law since front old
     → Holds law (taken_since right at s count since) (taken_front right at w s count front) new
-beside-laid law old new right even at w s lowest count tells since front room few low par same laid has h = record {
-  cell = λ t x b z f g. cell t x b (where-is right at count lowest (count_of old) x low room) z f g;
-}
+beside-laid law old new right even at w s lowest count tells since front room few low par same laid
+    has h = record {
+      cell = λ t x b z f g. cell t x b (where-is right at count lowest (count_of old) x low room) z
+          f g;
+    }
   where
     cell : (t x : ℕ) → x < count_of new → Where right at count lowest x
         → taken_since right at s count since x ≤ t → t ≤ taken_front right at w s count front x
@@ -253,15 +298,26 @@ beside-laid law old new right even at w s lowest count tells since front room fe
         let d = from_place at x in
         let q : taken_front right at w s count front x ≡ fan s w 0 d = rw among refl in
         let near : IsNear right at w d (count_of old) x =
-        record { some = some; near = omega arith; has = nearer right at count d (count_of old) room most; place_is = at-place } in
+        record {
+          some = some;
+          near = omega arith;
+          has = nearer right at count d (count_of old) room
+              most;
+          place_is = at-place;
+        } in
         elim (one-of t (s + (d - 1)) (omega arith) (omega arith)) [
           | inl k ↦
               outer-first law old right at w s d (count_of old) x tells (kept new t x) near has
-              (λ p told. ap (kept new t) (sym turn) ∙ laid.earlier t (d - 1) p (omega arith) (even-of (t + (d - 1)) s (omega arith) ∙ sym par) told)
+              (λ p told. ap (kept new t) (sym turn)
+              ∙ laid.earlier t (d - 1) p (omega arith)
+              (even-of (t + (d - 1)) s (omega arith) ∙ sym par) told)
               ∙ ap (λ y. spot law old y x) (sym k) ∙ sym m
           | inr k ↦
-              outer-second law old right at w s d (count_of old) x tells (kept new t x) near (omega arith) has
-              (λ p told. ap (kept new t) (sym turn) ∙ laid.later t (d - 1) p (omega arith) (even-of (t + (d - 1) + 1) s (omega arith) ∙ sym par) told)
+              outer-second law old right at w s d (count_of old) x tells (kept new t x) near
+              (omega arith) has
+              (λ p told. ap (kept new t) (sym turn)
+              ∙ laid.later t (d - 1) p (omega arith)
+              (even-of (t + (d - 1) + 1) s (omega arith) ∙ sym par) told)
               ∙ ap (λ y. spot law old y x) (sym k) ∙ sym m
         ]
     cell t x b (Outside apart past) z f g =

@@ -1,5 +1,6 @@
 //! What a station takes in from the sections beside it.
-ghost use Rattle.std.specs.Prelude.{◌≡◌, ℕ, ◌+◌, ◌-◌, ◌*◌, ◌/◌, ◌^◌, ◌<◌, ◌≤◌, Bool, true, false};
+ghost use Rattle.std.specs.Prelude.{◌≡◌, ℕ, ◌+◌, ◌-◌, ◌*◌, ◌/◌, ◌^◌, ◌<◌, ◌≤◌, Bool};
+ghost use Rattle.std.specs.Prelude.{true, false};
 ghost use Rattle.case_model.specs.Meaning.{Meaning};
 ghost use Rattle.fronts.specs.Fronts.{Holds};
 ghost use Rattle.fronts.specs.Stretches.{AreSamePlaces, count_of};
@@ -64,8 +65,8 @@ fn load_next<B: Block>(
     load_at(stretch, place, window, start, block, 1);
 }
 
-// The same over a window of any count of steps, of a copy of the block: that of a narrow window then
-// needs no place in memory.
+// The same over a window of any count of steps, of a copy of the block: that of a narrow window
+// then needs no place in memory.
 #[inline(never)]
 fn load_any_beside<B: Block>(
     stretch: &mut Stretch,

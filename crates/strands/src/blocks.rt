@@ -1,5 +1,6 @@
 //! What a section takes in from the stations at its ends.
-ghost use Rattle.std.specs.Prelude.{◌≡◌, ℕ, ◌+◌, ◌-◌, ◌*◌, ◌/◌, ◌^◌, ◌<◌, ◌≤◌, Bool, true, false};
+ghost use Rattle.std.specs.Prelude.{◌≡◌, ℕ, ◌+◌, ◌-◌, ◌*◌, ◌/◌, ◌^◌, ◌<◌, ◌≤◌, Bool};
+ghost use Rattle.std.specs.Prelude.{true, false};
 ghost use Rattle.case_model.specs.Meaning.{Meaning};
 ghost use Rattle.fronts.specs.Fronts.{Holds, ever};
 ghost use Rattle.fronts.specs.Stretches.{AreSamePlaces, count_of};
@@ -48,8 +49,8 @@ fn load_end<B: Block>(stretch: &mut Stretch, left: bool, window: usize, start: u
     load_place(stretch, from_end(left, last, 0), window, start, block, 0);
 }
 
-// The same over a window of any count of steps, of a copy of the block: that of a narrow window then
-// needs no place in memory.
+// The same over a window of any count of steps, of a copy of the block: that of a narrow window
+// then needs no place in memory.
 #[inline(never)]
 fn load_any_side<B: Block>(stretch: &mut Stretch, left: bool, window: usize, start: u64, block: B)
     requires each { B.size block ≡ window }

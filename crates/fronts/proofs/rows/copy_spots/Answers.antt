@@ -4,5 +4,7 @@ use Rattle.fronts.proofs.rows.copy_spots.Goals as goal
 
 pub returns : goal.returns
 returns c =
-    copied-mid c.args.place c.args.from c.args.count (c.args.place + c.args.count - c.args.place) (c.args.from + c.args.count - c.args.from) c.args.spots.now c.args.other.now
-    c.copy_from_slice.new.self c.requires.inside c.requires.there (omega arith) (omega arith) c.copy_from_slice.ensures.after
+    copied-mid c.args.place c.args.from c.args.count (c.args.place + c.args.count - c.args.place)
+    (c.args.from + c.args.count - c.args.from) c.args.spots.now c.args.other.now
+    c.copy_from_slice.new.self c.requires.inside c.requires.there (omega arith) (omega arith)
+    c.copy_from_slice.ensures.after

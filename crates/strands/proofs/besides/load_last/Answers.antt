@@ -14,7 +14,10 @@ returns-then-window-eq1-clause-holds g c = λ law since front points h.
     let s = c.args.start in
     let e : w / 2 + 1 ≡ half w = omega (arith, c.if-window-eq1.true) in
     let d : w / 2 ≡ w / 2 + 1 - 1 = omega arith in
-    subst (λ i. Holds law (taken_since right at s i since) (taken_front right at w s i front) c.load_at.new.stretch) e
+    subst (λ i. Holds law (taken_since right at s i since) (taken_front right at w s i front)
+    c.load_at.new.stretch) e
     (c.load_at.ensures.holds law right at since front
-    (subst (λ i. HasBeside right at i (count_of old)) (sym e) c.requires.inside) c.place_beside-place.ensures.place points
-    (subst (λ i. Holds law (taken_since right at s i since) (taken_front right at w s i front) old) d h))
+    (subst (λ i. HasBeside right at i (count_of old)) (sym e) c.requires.inside)
+    c.place_beside-place.ensures.place points
+    (subst (λ i. Holds law (taken_since right at s i since) (taken_front right at w s i front) old)
+    d h))

@@ -8,10 +8,13 @@ loop-index-init c = row-none c.args.even c.args.place c.args.other.now c.args.fr
 
 pub loop-index-preserved : goal.loop-index-preserved
 loop-index-preserved c =
-    row-more c.args.even c.args.place c.args.other.now c.args.from c.loop-index.index c.args.self.now c.loop-index.self c.put_of.new.self c.point_of.result
+    row-more c.args.even c.args.place c.args.other.now c.args.from c.loop-index.index
+    c.args.self.now c.loop-index.self c.put_of.new.self c.point_of.result
     c.loop-index.invariant c.point_of.ensures.point c.put_of.ensures
 
 pub returns : goal.returns
 returns c =
-    let e : c.loop-index.index ≡ c.args.count = omega (arith, c.loop-index.auto.index-end, c.loop-index-test.false) in
-    subst (λ n. IsRowTaken c.args.even c.args.place c.args.other.now c.args.from n c.args.self.now c.loop-index.self) e c.loop-index.invariant
+    let e : c.loop-index.index ≡ c.args.count = omega
+    (arith, c.loop-index.auto.index-end, c.loop-index-test.false) in
+    subst (λ n. IsRowTaken c.args.even c.args.place c.args.other.now c.args.from n c.args.self.now
+    c.loop-index.self) e c.loop-index.invariant

@@ -14,5 +14,8 @@ returns-clause-laid c = λ ok.
       | then-up b ↦ if-true up c.if-up.from block.at last b.if-up.true b.from-is
       | else-up b ↦ if-false up c.if-up.from block.at last b.if-up.false b.from-is
     ] in
-    station-laid block up c.args.even c.args.lowest c.if-up.from c.args.count c.args.stretch.now c.take.new.self
-    (same-flag up (block.right == 1) c.if-up-self.false) (other-parity c.args.even (block.start + block.window) c.if-even-self.false) from c.requires.there block.behind c.take.ensures
+    station-laid block up c.args.even c.args.lowest c.if-up.from c.args.count c.args.stretch.now
+    c.take.new.self
+    (same-flag up (block.right == 1) c.if-up-self.false)
+    (other-parity c.args.even (block.start + block.window) c.if-even-self.false) from
+    c.requires.there block.behind c.take.ensures
