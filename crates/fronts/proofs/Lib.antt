@@ -4,3 +4,4 @@ mod Making
 mod Pairing
 pub mod Raising
 pub mod Stepping
+mod Taking

@@ -12,19 +12,19 @@ use Rattle.std.proofs.lemmas.Bool.{cases_lt}
 
 -- ---- an item of a list of which a part was written over
 
-below : {X : Type 0} (a k : ℕ) (xs ys : List X) (i : ℕ) (d : X) → i < a → a ≤ length xs
+pub below : {X : Type 0} (a k : ℕ) (xs ys : List X) (i : ℕ) (d : X) → i < a → a ≤ length xs
     → get_or (put_mid a k xs ys) i d ≡ get_or xs i d
 below a k xs ys i d h l =
     get_or_append_left (take a xs) (ys ++ post_of a k xs) d i (omega (arith, length-take-le a xs l))
     ∙ get_or-take a xs i d h
 
-within : {X : Type 0} (a k : ℕ) (xs ys : List X) (i : ℕ) (d : X) → a ≤ i → i < a + length ys
+pub within : {X : Type 0} (a k : ℕ) (xs ys : List X) (i : ℕ) (d : X) → a ≤ i → i < a + length ys
     → a ≤ length xs → get_or (put_mid a k xs ys) i d ≡ get_or ys (i - a) d
 within a k xs ys i d h b l =
     get_or-append_right (take a xs) (ys ++ post_of a k xs) a i d (length-take-le a xs l) h
     ∙ get_or_append_left ys (post_of a k xs) d (i - a) (omega arith)
 
-above : {X : Type 0} (a k : ℕ) (xs ys : List X) (i : ℕ) (d : X) → a + k ≤ i → a ≤ length xs
+pub above : {X : Type 0} (a k : ℕ) (xs ys : List X) (i : ℕ) (d : X) → a + k ≤ i → a ≤ length xs
     → length ys ≡ k → get_or (put_mid a k xs ys) i d ≡ get_or xs i d
 above a k xs ys i d h l e =
     get_or-append_right (take a xs) (ys ++ post_of a k xs) a i d (length-take-le a xs l) (omega arith)
@@ -33,7 +33,7 @@ above a k xs ys i d h l e =
     ∙ get_or-drop a xs (k + (i - a - k)) d
     ∙ ap (λ j. get_or xs j d) (omega arith)
 
-calm-mid : (a k : ℕ) (xs ys : List Spot) → map calm_point (put_mid a k xs ys) ≡ put_mid a k (map calm_point xs) (map calm_point ys)
+pub calm-mid : (a k : ℕ) (xs ys : List Spot) → map calm_point (put_mid a k xs ys) ≡ put_mid a k (map calm_point xs) (map calm_point ys)
 calm-mid a k xs ys =
     map-append calm_point (take a xs) (ys ++ post_of a k xs)
     ∙ ap (λ l. l ++ map calm_point (ys ++ post_of a k xs)) (sym (take-map calm_point a xs))

@@ -4,4 +4,5 @@ pub mod Fronts
 pub mod Noted
 pub mod Pairs
 pub mod PointProps
+pub mod Rows
 pub mod Stretches

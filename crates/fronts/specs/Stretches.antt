@@ -1,6 +1,6 @@
 -- A stretch of places of a pipe as contracts see it: how many places it has, and the points that
 -- it keeps of them.
-use Rattle.std.specs.Prelude.{◌≡◌, ◌≢◌, ℕ, ◌+◌, ◌%◌, ◌==◌, nat_lt, Bool, true, false}
+use Rattle.std.specs.Prelude.{◌≡◌, ◌≢◌, ℕ, ◌+◌, ◌%◌, ◌==◌, nat_lt, Bool}
 use Rattle.std.specs.Prelude.{if◌then◌else◌}
 use Rattle.case_model.specs.declared.points.Point.{Point}
 use Rattle.case_model.specs.declared.points.Point.TheVariants.{Bad}

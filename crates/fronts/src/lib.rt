@@ -8,6 +8,7 @@ mod noting;
 mod pairs;
 mod parts;
 mod ranges;
+mod rows;
 mod stencil;
 mod stretches;
 

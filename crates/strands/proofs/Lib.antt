@@ -2,6 +2,7 @@ mod Advancing
 mod Fans
 mod Feeding
 pub mod Handing
+mod Laying
 mod Loading
 pub mod Marking
 mod Nodes

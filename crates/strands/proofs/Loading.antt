@@ -13,16 +13,16 @@ use Rattle.strands.specs.Blocks.{HasPoints, IsBare, from_end, loading, raised, s
 
 -- ---- the front while it is loaded
 
-loaded-in : (left : Bool) (n w s d : ℕ) (front : ℕ → ℕ) (x : ℕ) → from_end left n x < d
+pub loaded-in : (left : Bool) (n w s d : ℕ) (front : ℕ → ℕ) (x : ℕ) → from_end left n x < d
     → loading left n w s d front x ≡ s + w - from_end left n x
 loaded-in left n w s d front x h = rw (lt-ltb (from_end left n x) d h) refl
 
-loaded-out : (left : Bool) (n w s d : ℕ) (front : ℕ → ℕ) (x : ℕ) → d ≤ from_end left n x
+pub loaded-out : (left : Bool) (n w s d : ℕ) (front : ℕ → ℕ) (x : ℕ) → d ≤ from_end left n x
     → loading left n w s d front x ≡ front x
 loaded-out left n w s d front x h = rw (le-ltb (from_end left n x) d h) refl
 
 -- a place and a distance tell each other
-place-is : (left : Bool) (n d x : ℕ) → d ≤ n → x ≤ n → from_end left n x ≡ d → x ≡ from_end left n d
+pub place-is : (left : Bool) (n d x : ℕ) → d ≤ n → x ≤ n → from_end left n x ≡ d → x ≡ from_end left n d
 place-is true n d x a b e = e
 place-is false n d x a b e = omega arith
 

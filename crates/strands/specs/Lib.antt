@@ -1,6 +1,7 @@
 pub mod Beside
 pub mod Blocks
 pub mod Hubs
+pub mod Laid
 pub mod Marks
 pub mod Seams
 pub mod Sections

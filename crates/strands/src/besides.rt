@@ -1,5 +1,6 @@
 //! What a station takes in from the sections beside it.
-ghost use Rattle.std.specs.Prelude.{◌≡◌, ℕ, ◌+◌, ◌-◌, ◌*◌, ◌^◌, ◌<◌, ◌≤◌, Bool};
+ghost use Rattle.std.specs.Prelude.{◌≡◌, ℕ, ◌+◌, ◌-◌, ◌*◌, ◌/◌, ◌^◌, ◌<◌, ◌≤◌, Bool};
+ghost use Rattle.std.specs.Prelude.{true, false};
 ghost use Rattle.case_model.specs.Meaning.{Meaning};
 ghost use Rattle.fronts.specs.Fronts.{Holds};
 ghost use Rattle.fronts.specs.Stretches.{AreSamePlaces, count_of};
@@ -64,10 +65,91 @@ fn load_next<B: Block>(
     load_at(stretch, place, window, start, block, 1);
 }
 
-// The same over a window of any count of steps, of a copy of the block: that of a narrow window then
-// needs no place in memory.
+// The same over a window of any count of steps, of a copy of the block: that of a narrow window
+// then needs no place in memory.
 #[inline(never)]
 fn load_any_beside<B: Block>(
+    stretch: &mut Stretch,
+    right: bool,
+    at: usize,
+    window: usize,
+    start: u64,
+    block: B,
+)
+    requires each { B.size block ≡ window }
+    requires inside { HasBeside right at (half window) (count_of stretch.old) }
+    requires room { start + window < 2 ^ 64 }
+    ensures same { AreSamePlaces stretch.old stretch.new }
+    ensures holds { (law : Meaning) (since front : ℕ → ℕ) →
+        HasPoints window (outer_side law stretch.old right at start) (B.tells block) →
+        Holds law since front stretch.old →
+        Holds law (taken_since right at start (half window) since)
+        (taken_front right at window start (half window) front) stretch.new }
+{
+    if lay_beside(stretch, right, at, window, start, &block) {
+        load_last(stretch, right, at, window, start, block);
+    } else {
+        load_each(stretch, right, at, window, start, block);
+    }
+}
+
+// Takes the pairs of points of the block in as they stand, or tells that they don't stand so.
+#[inline(always)]
+fn lay_beside<B: Block>(
+    stretch: &mut Stretch,
+    right: bool,
+    at: usize,
+    window: usize,
+    start: u64,
+    block: &B,
+) -> bool
+    requires each { B.size block.now ≡ window }
+    requires inside { HasBeside right at (half window) (count_of stretch.old) }
+    requires room { start + window < 2 ^ 64 }
+    ensures same { AreSamePlaces stretch.old stretch.new }
+    ensures holds { result ≡ true → (law : Meaning) (since front : ℕ → ℕ) →
+        HasPoints window (outer_side law stretch.old right at start) (B.tells block.now) →
+        Holds law since front stretch.old →
+        Holds law (taken_since right at start (window / 2) since)
+        (taken_front right at window start (window / 2) front) stretch.new }
+    ensures stays { result ≡ false → stretch.new ≡ stretch.old }
+{
+    let _ = stretch.count();
+    let count = window / 2;
+    let lowest = if right { at + 1 } else { at - count };
+    block.lay(stretch, right, start % 2 == 0, lowest, count)
+}
+
+// Takes in what is left once the pairs are: of an odd window the last point.
+#[inline(always)]
+fn load_last<B: Block>(
+    stretch: &mut Stretch,
+    right: bool,
+    at: usize,
+    window: usize,
+    start: u64,
+    block: B,
+)
+    requires each { B.size block ≡ window }
+    requires inside { HasBeside right at (half window) (count_of stretch.old) }
+    requires room { start + window < 2 ^ 64 }
+    ensures same { AreSamePlaces stretch.old stretch.new }
+    ensures holds { (law : Meaning) (since front : ℕ → ℕ) →
+        HasPoints window (outer_side law stretch.old right at start) (B.tells block) →
+        Holds law (taken_since right at start (window / 2) since)
+        (taken_front right at window start (window / 2) front) stretch.old →
+        Holds law (taken_since right at start (half window) since)
+        (taken_front right at window start (half window) front) stretch.new }
+{
+    if window % 2 == 1 {
+        let place = place_beside(stretch, right, at, window / 2 + 1);
+        load_at(stretch, place, window, start, &block, window / 2 + 1);
+    }
+}
+
+// As `load_any_beside`, distance by distance.
+#[inline(never)]
+fn load_each<B: Block>(
     stretch: &mut Stretch,
     right: bool,
     at: usize,

@@ -1,5 +1,6 @@
 //! What a section takes in from the stations at its ends.
-ghost use Rattle.std.specs.Prelude.{◌≡◌, ℕ, ◌+◌, ◌-◌, ◌*◌, ◌^◌, ◌<◌, ◌≤◌, Bool};
+ghost use Rattle.std.specs.Prelude.{◌≡◌, ℕ, ◌+◌, ◌-◌, ◌*◌, ◌/◌, ◌^◌, ◌<◌, ◌≤◌, Bool};
+ghost use Rattle.std.specs.Prelude.{true, false};
 ghost use Rattle.case_model.specs.Meaning.{Meaning};
 ghost use Rattle.fronts.specs.Fronts.{Holds, ever};
 ghost use Rattle.fronts.specs.Stretches.{AreSamePlaces, count_of};
@@ -48,10 +49,81 @@ fn load_end<B: Block>(stretch: &mut Stretch, left: bool, window: usize, start: u
     load_place(stretch, from_end(left, last, 0), window, start, block, 0);
 }
 
-// The same over a window of any count of steps, of a copy of the block: that of a narrow window then
-// needs no place in memory.
+// The same over a window of any count of steps, of a copy of the block: that of a narrow window
+// then needs no place in memory.
 #[inline(never)]
 fn load_any_side<B: Block>(stretch: &mut Stretch, left: bool, window: usize, start: u64, block: B)
+    requires each { B.size block ≡ window }
+    requires long { window + 1 ≤ count_of stretch.old }
+    requires room { start + window < 2 ^ 64 }
+    ensures same { AreSamePlaces stretch.old stretch.new }
+    ensures holds { (law : Meaning) (front : ℕ → ℕ) →
+        HasPoints window (station_side law stretch.old left window start) (B.tells block) →
+        IsBare left (count_of stretch.old - 1) window start front →
+        Holds law ever front stretch.old →
+        Holds law ever (raised left (count_of stretch.old - 1) window start front) stretch.new }
+{
+    if lay_side(stretch, left, window, start, &block) {
+        load_last(stretch, left, window, start, block);
+    } else {
+        load_each(stretch, left, window, start, block);
+    }
+}
+
+// Takes the pairs of points of the block in as they stand, or tells that they don't stand so.
+#[inline(always)]
+fn lay_side<B: Block>(
+    stretch: &mut Stretch,
+    left: bool,
+    window: usize,
+    start: u64,
+    block: &B,
+) -> bool
+    requires each { B.size block.now ≡ window }
+    requires long { window + 1 ≤ count_of stretch.old }
+    requires room { start + window < 2 ^ 64 }
+    ensures same { AreSamePlaces stretch.old stretch.new }
+    ensures holds { result ≡ true → (law : Meaning) (front : ℕ → ℕ) →
+        HasPoints window (station_side law stretch.old left window start) (B.tells block.now) →
+        Holds law ever front stretch.old →
+        Holds law ever
+        (loading left (count_of stretch.old - 1) window start (window / 2) front) stretch.new }
+    ensures stays { result ≡ false → stretch.new ≡ stretch.old }
+{
+    let count = window / 2;
+    let lowest = if left { 0 } else { stretch.count() - count };
+    block.lay(
+        stretch,
+        left,
+        (start + window as u64) % 2 == 1,
+        lowest,
+        count,
+    )
+}
+
+// Takes in what is left once the pairs are: of an odd window the last point.
+#[inline(always)]
+fn load_last<B: Block>(stretch: &mut Stretch, left: bool, window: usize, start: u64, block: B)
+    requires each { B.size block ≡ window }
+    requires long { window + 1 ≤ count_of stretch.old }
+    requires room { start + window < 2 ^ 64 }
+    ensures same { AreSamePlaces stretch.old stretch.new }
+    ensures holds { (law : Meaning) (front : ℕ → ℕ) →
+        HasPoints window (station_side law stretch.old left window start) (B.tells block) →
+        IsBare left (count_of stretch.old - 1) window start front →
+        Holds law ever
+        (loading left (count_of stretch.old - 1) window start (window / 2) front) stretch.old →
+        Holds law ever (raised left (count_of stretch.old - 1) window start front) stretch.new }
+{
+    if window % 2 == 1 {
+        let place = from_end(left, stretch.count() - 1, window / 2);
+        load_place(stretch, place, window, start, &block, window / 2);
+    }
+}
+
+// As `load_any_side`, distance by distance.
+#[inline(never)]
+fn load_each<B: Block>(stretch: &mut Stretch, left: bool, window: usize, start: u64, block: B)
     requires each { B.size block ≡ window }
     requires long { window + 1 ≤ count_of stretch.old }
     requires room { start + window < 2 ^ 64 }

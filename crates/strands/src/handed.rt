@@ -1,11 +1,12 @@
 //! Blocks: the points that one strand hands on to another. Those of a strand at rest are read
 //! where they stand, in its stretch.
 ghost use Rattle.std.specs.Prelude.{◌≡◌, ℕ, ◌+◌, ◌-◌, ◌*◌, ◌/◌, ◌^◌, ◌<◌, ◌≤◌, ◌==◌};
-ghost use Rattle.std.specs.Prelude.{if◌then◌else◌};
+ghost use Rattle.std.specs.Prelude.{if◌then◌else◌, true, false};
 ghost use Rattle.case_model.specs.Range.{IsPoint};
 ghost use Rattle.case_model.specs.declared.points.Point.{Point as PointSeen};
 ghost use Rattle.fronts.specs.Pairs.{first_of, second_of};
-ghost use Rattle.fronts.specs.Stretches.{count_of};
+ghost use Rattle.fronts.specs.Stretches.{AreSamePlaces, count_of};
+ghost use Rattle.strands.specs.Laid.{AreLaid};
 
 use crate::besides::{place_beside, step_in};
 use crate::blocks::from_end;
@@ -42,6 +43,23 @@ pub trait Block: Copy {
             first: self.point(2 * index),
             second: self.point(2 * index + 1),
         }
+    }
+
+    /// Lays the points at so many distances into as many places from the lowest on, upwards or
+    /// downwards: the first point for the even steps, or for the odd ones. Where they don't stand
+    /// so in a stretch it tells so, and changes nothing.
+    #[inline(always)]
+    fn lay(&self, stretch: &mut Stretch, up: bool, even: bool, lowest: usize, count: usize) -> bool
+        requires there { 2 * count ≤ size self.now }
+        requires inside { lowest + count ≤ count_of stretch.old }
+        ensures same { AreSamePlaces stretch.old stretch.new }
+        ensures laid { result ≡ true →
+            AreLaid up even lowest count (tells self.now) stretch.old stretch.new }
+        ensures left { result ≡ false → stretch.new ≡ stretch.old }
+    {
+        let _ = (up, even, lowest, count);
+        let _ = stretch;
+        false
     }
 }
 
@@ -105,6 +123,27 @@ impl<'a> Block for SectionBlock<'a> {
     fn pair(&self, index: usize) -> Pair {
         let place = from_end(self.left == 1, self.stretch.count() - 1, index + 1);
         self.stretch.pair(self.start + index as u64, place)
+    }
+
+    #[inline(always)]
+    fn lay(
+        &self,
+        stretch: &mut Stretch,
+        up: bool,
+        even: bool,
+        lowest: usize,
+        count: usize,
+    ) -> bool {
+        if up != (self.left == 1) || even != (self.start % 2 == 0) {
+            return false;
+        }
+        let from = if up {
+            1
+        } else {
+            self.stretch.count() - 1 - count
+        };
+        stretch.take(lowest, self.stretch, from, count);
+        true
     }
 }
 
@@ -175,5 +214,23 @@ impl<'a> Block for StationBlock<'a> {
         let place = place_beside(self.stretch, self.right == 1, self.at, index);
         self.stretch
             .pair(self.start + (self.window - 1 - index) as u64, place)
+    }
+
+    #[inline(always)]
+    fn lay(
+        &self,
+        stretch: &mut Stretch,
+        up: bool,
+        even: bool,
+        lowest: usize,
+        count: usize,
+    ) -> bool {
+        if up != (self.right == 1) || even == ((self.start + self.window as u64) % 2 == 0) {
+            return false;
+        }
+        let _ = self.stretch.count();
+        let from = if up { self.at } else { self.at + 1 - count };
+        stretch.take(lowest, self.stretch, from, count);
+        true
     }
 }

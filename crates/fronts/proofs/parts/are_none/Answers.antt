@@ -1,4 +1,4 @@
-use Rattle.std.proofs.Common.{◌≤◌, length, arith}
+use Rattle.std.proofs.Common.{arith}
 use Rattle.fronts.proofs.Keeping.{none-all, none-more}
 use Rattle.fronts.proofs.parts.are_none.Goals as goal
 

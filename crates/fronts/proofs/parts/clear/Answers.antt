@@ -1,4 +1,4 @@
-use Rattle.std.proofs.Common.{◌≡◌, ◌∙◌, ◌<◌, ◌≤◌, length, arith}
+use Rattle.std.proofs.Common.{arith}
 use Rattle.fronts.proofs.Keeping.{cleared-all, cleared-more}
 use Rattle.fronts.proofs.parts.clear.Goals as goal
 

@@ -1,4 +1,4 @@
-use Rattle.std.proofs.Common.{◌≡◌, ◌-◌, ◌+◌, length, take, drop, refl, arith}
+use Rattle.std.proofs.Common.{◌≡◌, ◌-◌, length, take, drop, refl, arith}
 use Rattle.std.proofs.lemmas.List.{length-drop, length-take-le}
 use Rattle.fronts.proofs.Making.{run-made}
 use Rattle.fronts.proofs.stencil.make_spots.Goals as goal

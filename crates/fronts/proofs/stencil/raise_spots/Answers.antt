@@ -1,4 +1,4 @@
-use Rattle.std.proofs.Common.{◌+◌, ◌≤◌, arith}
+use Rattle.std.proofs.Common.{arith}
 use Rattle.fronts.proofs.Making.{raised-evens, raised-odds}
 use Rattle.fronts.proofs.stencil.raise_spots.Goals as goal
 

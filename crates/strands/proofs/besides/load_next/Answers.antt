@@ -1,4 +1,4 @@
-use Rattle.std.proofs.Common.{◌≡◌, ◌+◌, ◌/◌, subst, sym, arith}
+use Rattle.std.proofs.Common.{◌≡◌, subst, sym, arith}
 use Rattle.fronts.specs.Fronts.{Holds}
 use Rattle.fronts.specs.Stretches.{count_of}
 use Rattle.strands.proofs.Taking.{nearer, taken-none}

@@ -1,4 +1,4 @@
-use Rattle.std.proofs.Common.{◌≡◌, ◌∙◌, ◌+◌, ◌-◌, ◌≤◌, ap, sym, refl, length, arith}
+use Rattle.std.proofs.Common.{◌∙◌, ap, sym, refl, length, arith}
 use Rattle.std.proofs.lemmas.List.{with_items_is}
 use Rattle.fronts.specs.Stretches.{count_of}
 use Rattle.fronts.proofs.Stepping.{stepped-calm}

@@ -1,5 +1,4 @@
-use Rattle.std.proofs.Common.{◌≡◌, ◌∙◌, ◌+◌, ◌-◌, ap, sym, subst}
-use Rattle.case_model.specs.Range.{IsPoint}
+use Rattle.std.proofs.Common.{◌∙◌, ◌+◌, ◌-◌, ap}
 use Rattle.fronts.specs.Stretches.{is_even, kept_in}
 use Rattle.fronts.proofs.Stepping.{stepped-one}
 use Rattle.fronts.proofs.stretches.Stretch.raise_place.Goals as goal

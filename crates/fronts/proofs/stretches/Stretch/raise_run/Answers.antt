@@ -1,4 +1,4 @@
-use Rattle.std.proofs.Common.{◌≡◌, ◌⊎◌, ◌+◌, ◌≤◌, inl, inr, refl, arith}
+use Rattle.std.proofs.Common.{◌+◌, inl, inr, refl, arith}
 use Rattle.fronts.proofs.Stepping.{stepped-end, stepped-more, stepped-none}
 use Rattle.fronts.proofs.stretches.Stretch.raise_run.Goals as goal
 

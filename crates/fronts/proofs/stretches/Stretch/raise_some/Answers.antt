@@ -1,4 +1,4 @@
-use Rattle.std.proofs.Common.{◌≡◌, ◌+◌, arith}
+use Rattle.std.proofs.Common.{arith}
 use Rattle.fronts.proofs.Stepping.{stepped-nothing}
 use Rattle.fronts.proofs.stretches.Stretch.raise_some.Goals as goal
 

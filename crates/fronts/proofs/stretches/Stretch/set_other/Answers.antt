@@ -1,4 +1,3 @@
-use Rattle.std.proofs.Common.{◌<◌, ◌*◌, arith}
 use Rattle.fronts.proofs.Keeping.{set-of, set-then}
 use Rattle.fronts.proofs.stretches.Stretch.set_other.Goals as goal
 
