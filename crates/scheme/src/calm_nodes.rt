@@ -1,5 +1,5 @@
-//! Nodes by what is prepared for their pipes: discharge valves, and junctions of few ends that have no
-//! cavity and get none.
+//! Nodes by what is prepared for their pipes: discharge valves, and junctions of few ends that have
+//! no cavity and get none.
 ghost use Rattle.std.specs.Prelude.{◌≡◌, ◌<◌, ◌≤◌, ◌*◌, ◌+ℤ◌, ◌≤ℤ◌, pos, unsigned_abs};
 ghost use Rattle.std.specs.Prelude.{true, length, All, IfSome, Some};
 ghost use Rattle.std.specs.List.{list_all};

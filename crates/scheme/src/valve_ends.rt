@@ -13,8 +13,8 @@ use crate::arrivals::prepared_arrival;
 use crate::node_laws::{NodeView, Opened, discharge_law};
 use case_model::{CavityRule, NodeState, Point};
 
-/// The state of a discharge valve at an opening and the point of its end; None where any node's law is
-/// to tell.
+/// The state of a discharge valve at an opening and the point of its end; None where any node's law
+/// is to tell.
 #[inline(never)]
 pub(crate) fn valve_end(
     rule: &CavityRule,
