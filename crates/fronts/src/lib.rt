@@ -4,6 +4,7 @@
 #![tactic(auto)]
 
 mod cavities;
+mod ends;
 mod noting;
 mod pairs;
 mod parts;

@@ -1,5 +1,5 @@
 -- Junctions that have no cavity and get none.
-use Rattle.std.proofs.Common.{take, slice_set, add-one, ◌+◌, ◌+ℤ◌, ◌≡◌, ◌≤◌, ◌<◌, ℕ, zero, suc, ℤ, pos, negsuc, ◌-ℤ◌, ◌≤ℤ◌, unsigned_abs, Bool, true, false, List, [], ◌∷◌, Option, Some, None, length, get_or, nat_le, arith, refl, subst, sym, ap, ◌∙◌, IfSome}
+use Rattle.std.proofs.Common.{take, slice_set, add-one, ◌+◌, ◌+ℤ◌, ◌≡◌, ◌≤◌, ◌<◌, ℕ, zero, suc, ℤ, pos, negsuc, ◌-ℤ◌, ◌≤ℤ◌, unsigned_abs, true, List, [], ◌∷◌, Option, Some, None, length, get_or, nat_le, arith, refl, subst, sym, ap, ◌∙◌, IfSome}
 use Rattle.std.specs.List.{list_all}
 use Rattle.std.proofs.lemmas.Int.{ints}
 use Rattle.std.proofs.lemmas.Bool.{eqb-true}

@@ -10,3 +10,4 @@ pub mod Shares
 pub mod Starting
 pub mod Suiting
 pub mod TimeTables
+pub mod ValveEnds

@@ -1,6 +1,6 @@
 -- Junctions that have no cavity and get none, by what is prepared for their pipes.
 use Rattle.std.specs.Prelude.{◌≡◌, ◌<◌, ℕ, ℤ, Bool, false, ◌==◌, unsigned_abs, Option, Some, None}
-use Rattle.std.specs.Prelude.{List, length, slice_index_or}
+use Rattle.std.specs.Prelude.{List, slice_index_or}
 use Rattle.case_model.specs.declared.meshes.Arrival.{Arrival}
 use Rattle.case_model.specs.declared.meshes.CavityRule.{CavityRule}
 use Rattle.case_model.specs.declared.meshes.End.{End}

@@ -11,3 +11,4 @@ pub mod ReadProps
 pub mod Runs
 pub mod Starts
 pub mod Values
+pub mod ValveEnds

@@ -86,8 +86,9 @@ fn put_arrival(
     }
 }
 
-// Where what is prepared for the pipe tells it, by few products.
-fn prepared_arrival(table: &[PreparedPipe], end: &End, point: &Point) -> Option<Arrival>
+/// Where what is prepared for the pipe tells it, by few products.
+#[inline(always)]
+pub(crate) fn prepared_arrival(table: &[PreparedPipe], end: &End, point: &Point) -> Option<Arrival>
     requires point_in { IsPoint point.now }
     ensures value { (case : CaseSeen) (mesh : MeshSeen) → ArePrepared case mesh table.now →
         IfSome result (λ arrival.

@@ -17,6 +17,7 @@ mod prepared;
 mod runs;
 mod starts;
 mod values;
+mod valve_ends;
 mod vapour;
 
 pub use causes::{bad_ends_have_causes, bad_nodes_have_causes, bad_places_have_causes};

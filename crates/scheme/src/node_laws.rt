@@ -269,14 +269,17 @@ fn kind_law(
     }
 }
 
-// A valve at an opening.
+/// A valve at an opening.
 #[derive(Clone, Copy)]
-struct Opened {
-    valve: Valve,
-    opening: i64,
+pub(crate) struct Opened {
+    /// The valve.
+    pub(crate) valve: Valve,
+    /// Its opening, in 1e-6.
+    pub(crate) opening: i64,
 }
 
-fn valve(q0: i64, h0: i64, outlet: i64) -> Valve
+/// A valve with its outlet at a head.
+pub(crate) fn valve(q0: i64, h0: i64, outlet: i64) -> Valve
     ensures { result ≡ valve_of q0 h0 outlet }
 {
     Valve { q0, h0, outlet }
@@ -326,7 +329,9 @@ fn junction_law(
     state
 }
 
-fn discharge_law(
+/// A discharge valve at an opening, of what arrives along its only end.
+#[inline(always)]
+pub(crate) fn discharge_law(
     rule: &CavityRule,
     opened: &Opened,
     own: &NodeState,

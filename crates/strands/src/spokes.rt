@@ -211,7 +211,7 @@ impl Spoke {
         let at = self.end();
         let low = self.inner_low(most);
         self.stretch.step_run(law, step, low, low + most);
-        self.stretch.put(step + 1, at, *point);
+        self.stretch.put_lent(step + 1, at, point);
         let low = low.min(at);
         self.stretch.note(fold, step + 1, low, low + most + 1);
     }

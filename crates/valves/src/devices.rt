@@ -79,6 +79,10 @@ pub(crate) fn valve_flow(b: i64, valve: &Valve, opening: i64, e: i64) -> i64
     ensures value { result ≡ valve_flow_of b valve.now.q0 valve.now.h0 opening e }
     ensures size { unsigned_abs result ≤ 200_000_000_000_000_000 }
 {
+    // Nothing goes through a shut valve.
+    if opening == 0 {
+        return 0;
+    }
     let w = open_flow(valve.q0, opening);
     line_flow(
         half_flow(b, valve.q0, w, valve.h0),

@@ -1,9 +1,7 @@
-use Rattle.std.proofs.Common.{arith, to_z-of_z, ◌≡◌, ◌≤◌, ◌*◌, ◌+ℤ◌, ◌*ℤ◌, ℤ, unsigned_abs, FitsSigned, w64, rules, ap, ◌∙◌}
-use Rattle.std.specs.Int.{w128}
+use Rattle.std.proofs.Common.{arith, to_z-of_z, ◌≤◌, ◌*◌, ◌+ℤ◌, unsigned_abs, w64}
 use Rattle.std.proofs.lemmas.Int.{ints, fits_signed_from_abs}
 use Rattle.charline.proofs.Sizes.{fits_wide}
 use Rattle.fixed_num.proofs.Fits.{fits}
-use Rattle.junctions.specs.Sums.{weighted_head}
 use Rattle.scheme.proofs.calm_nodes.added.Goals as goal
 
 pub returns-clause-heads : goal.returns-clause-heads

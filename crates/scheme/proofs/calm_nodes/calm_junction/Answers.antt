@@ -1,5 +1,4 @@
-use Rattle.std.proofs.Common.{arith, to_z-of_z, refl, ◌≤◌, ◌≡◌, ◌≤ℤ◌, ℤ, FitsSigned, unsigned_abs, w64, sym, rules}
-use Rattle.std.specs.Int.{w128}
+use Rattle.std.proofs.Common.{arith, to_z-of_z, refl, ◌≤◌, ◌≡◌, ◌≤ℤ◌, ℤ, FitsSigned, unsigned_abs, w64, rules}
 use Rattle.std.proofs.lemmas.Int.{ints, to_z-of_z as read}
 use Rattle.junctions.specs.Junctions.{junction_head}
 use Rattle.scheme.specs.Values.{rule_at}

@@ -1,4 +1,4 @@
-use Rattle.std.proofs.Common.{arith, w64, to_z-of_z, ◌≤◌, ◌<◌, ◌≡◌, ℕ, length, get_or, pos, unsigned_abs}
+use Rattle.std.proofs.Common.{arith, w64, to_z-of_z, ◌≡◌, length, get_or, pos}
 use Rattle.std.proofs.lemmas.Int.{to_z-of_z as read}
 use Rattle.std.proofs.lemmas.Grind.{common_steps}
 use Rattle.case_model.specs.declared.states.NodeState.TheVariants.{Good}
@@ -6,7 +6,7 @@ use Rattle.charline.specs.Characteristics.{flow_in}
 use Rattle.junctions.specs.Levels.{inflows}
 use Rattle.scheme.specs.Ends.{end_point}
 use Rattle.scheme.proofs.CalmJunctions.{all_flows, pointed_more}
-use Rattle.scheme.proofs.EndPoints.{PointedTo, points-all}
+use Rattle.scheme.proofs.EndPoints.{points-all}
 use Rattle.scheme.proofs.Gathered.{no_arrival, no_end}
 use Rattle.scheme.proofs.calm_nodes.put_level.Goals as goal
 

@@ -17,7 +17,7 @@ returns-clause-advanced g c = λ since front later ra p h.
     let last = c.args.self.now.last in
     let old = c.args.self.now.stretch in
     let mid = c.step_run.new.self in
-    let new = c.put.new.self in
+    let new = c.put_lent.new.self in
     let step = c.args.step in
     let most = c.args.most in
     let n = count_of old - 1 in
@@ -25,11 +25,11 @@ returns-clause-advanced g c = λ since front later ra p h.
     let a : most < n = omega (arith, c.requires.inside) in
     let at-is : c.end-at.result ≡ end_place last n = c.end-at.ensures in
     let low-in : c.inner_low-low.result ≡ inner_low last n most = c.inner_low-low.ensures in
-    let same = places-then old mid new c.step_run.ensures.stepped.same c.put.ensures.put.same in
+    let same = places-then old mid new c.step_run.ensures.stepped.same c.put_lent.ensures.put.same in
     let held = spoke-holds law last n step most c.inner_low-low.result c.end-at.result old mid new
     since front later c.args.point.now
     size a low-in at-is c.step_run.ensures.stepped.same ra p c.step_run.ensures.holds
-    (c.put.ensures.holds law) h in
+    (c.put_lent.ensures.holds law) h in
     let low : c.min-low.result ≡ run_low last n most =
     c.min-low.ensures ∙ ap (λ z. min z c.end-at.result) low-in ∙ ap (min (inner_low last n most))
     at-is ∙ low-is last n most a in
@@ -64,6 +64,6 @@ note-requires-clause-span g c =
     c.min-low.ensures ∙ ap (λ z. min z c.end-at.result) c.inner_low-low.ensures
     ∙ ap (min (inner_low last n most)) c.end-at.ensures
     ∙ low-is last n most a in
-    within-spoke last n most c.min-low.result old.number c.put.new.self.number (count_of old)
+    within-spoke last n most c.min-low.result old.number c.put_lent.new.self.number (count_of old)
     (spans_of c.args.fold.now) size a low
-    (c.put.ensures.put.same.number_is ∙ c.step_run.ensures.stepped.same.number_is) c.requires.noted
+    (c.put_lent.ensures.put.same.number_is ∙ c.step_run.ensures.stepped.same.number_is) c.requires.noted
