@@ -35,7 +35,7 @@ ghost use Rattle.charline.specs.Characteristics.{friction_head as friction_head_
 use crate::losses::friction_head;
 use crate::quotients::impedance_head;
 use case_model::{Arrival, Point, Spot};
-use fixed_num::{Reciprocal, billionth, half, mulhi, rnd};
+use fixed_num::{Guess, Reciprocal, billionth, half, mulhi, rnd};
 
 // A rise of the head that is out of the range of characteristics.
 const OUT: i64 = 1_000_000_000_000_000_000;
@@ -62,6 +62,9 @@ pub struct Prepared {
     few: u64,
     // The inverse of the impedance, in 1e-16 m2/s.
     inverse: i64,
+    // What quotients by the weights at its first end and at its last are guessed with.
+    first: Guess,
+    last: Guess,
     ghost spanned: { span ≡ most +ℤ most },
     ghost roomy: { room ≡ pos 100_000_000_000 -ℤ top },
     ghost limits: { IsPrepared b r most scaled few top twice.divisor },
@@ -100,7 +103,29 @@ impl Prepared {
             scaled: scaled(r),
             few: few(b),
             inverse: inverse(b),
+            first: Guess::none(),
+            last: Guess::none(),
         }
+    }
+
+    /// What quotients by the weights at one of its ends are guessed with.
+    pub fn guess(&self, at_last: bool) -> Guess {
+        if at_last { self.last } else { self.first }
+    }
+
+    /// The same with another guess for one of its ends.
+    pub fn guessing(&self, at_last: bool, guess: Guess) -> Prepared
+        ensures impedance { result.b ≡ self.now.b }
+        ensures resistance { result.r ≡ self.now.r }
+        ensures top { result.top ≡ self.now.top }
+    {
+        let mut same = *self;
+        if at_last {
+            same.last = guess;
+        } else {
+            same.first = guess;
+        }
+        same
     }
 
     /// The inverse of the impedance, in 1e-16 m2/s: what arrives at a node counts by it.

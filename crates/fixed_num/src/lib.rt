@@ -3,6 +3,7 @@
 #![tactic(auto)]
 
 mod decimal;
+mod guesses;
 mod reciprocals;
 mod roots;
 mod rounding;
@@ -10,6 +11,7 @@ mod tables;
 mod written;
 
 pub use decimal::{NumberFault, numbers_are_spelled, read_decimal};
+pub use guesses::Guess;
 pub use reciprocals::{Reciprocal, billionth, half, mulhi};
 pub use roots::{root, root_is_greatest};
 pub use rounding::rnd;

@@ -25,6 +25,7 @@ use crate::means::mean;
 use crate::sums::{weighted_sums, write_inflows};
 use case_model::{Arrival, CavityRule, NodeState};
 use charline::cavity_volume;
+use fixed_num::Guess;
 
 /// The state of a reservoir at its head (1e-6 m); `flows` receives the flow into it (1e-9 m3/s) along
 /// each arrival. Bad, with flows 0, where a flow is out of range.
@@ -135,12 +136,12 @@ fn junction_head(demand: i64, arrivals: &[Arrival]) -> i64
     ensures size { unsigned_abs result ≤ 10_010_000_000_000_000 }
 {
     let (heads, weights) = weighted_sums(arrivals);
-    level(demand, heads, weights)
+    level(demand, heads, weights, Guess::none())
 }
 
 /// The head (1e-6 m) of a junction with a demand (1e-9 m3/s), by the sums over what arrives: that of
 /// value times weight, and that of the weights.
-pub fn level(demand: i64, heads: i128, weights: i128) -> i64
+pub fn level(demand: i64, heads: i128, weights: i128, guess: Guess) -> i64
     requires demand_in { IsFlow demand }
     requires low { pos 1_000_000_000 ≤ℤ weights }
     requires high { weights ≤ℤ pos 1_600_000_000_000_000_000 }
@@ -149,5 +150,5 @@ pub fn level(demand: i64, heads: i128, weights: i128) -> i64
         ≡ rounded (heads -ℤ (demand *ℤ pos 10_000_000_000_000)) weights }
     ensures size { unsigned_abs result ≤ 10_010_000_000_000_000 }
 {
-    mean(heads - demand as i128 * 10_000_000_000_000, weights)
+    mean(heads - demand as i128 * 10_000_000_000_000, weights, guess)
 }

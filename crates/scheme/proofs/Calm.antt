@@ -28,8 +28,8 @@ use Rattle.scheme.specs.declared.prepared.PreparedPipe.{PreparedPipe}
 use Rattle.scheme.specs.declared.prepared.PreparedPipe.TheVariants.{Explicit as InWords, Linear as Linearly, Wide}
 use Rattle.charline.specs.declared.runs.Prepared.{Prepared}
 use Rattle.std.proofs.Math.Seq.{get_or-append_seam}
-use Rattle.std.proofs.lemmas.List.{get_or_append_left}
-use Rattle.std.proofs.lemmas.Bool.{cases_lt}
+use Rattle.std.proofs.lemmas.List.{get_or_append_left, get_or-set_other, get_or-set_same, length-set}
+use Rattle.std.proofs.lemmas.Bool.{cases_eq, cases_lt}
 use Rattle.charline.proofs.Calm.{double}
 
 below_higher : (first last x : ℤ) → IsPart (last -ℤ first) x → (first +ℤ x) ≤ℤ int_max first last
@@ -148,3 +148,25 @@ one_pushed case mesh n table new x e h one s =
     let longer : length (table ++ x ∷ []) ≡ n + 1 = omega (arith, e, length-append table (x ∷ [])) in
     subst (λ (l : List PreparedPipe). (length l ≡ n + 1) × ArePrepared case mesh l) (sym s)
     (longer, one_prepared case mesh table x h (subst (λ (k : ℕ). IsPreparedFor case mesh k x) (sym e) one))
+
+-- what is told of a pipe doesn't speak of guesses
+pub same_pipe : (case : Case) (mesh : Mesh) (p : ℕ) (x y : Prepared) → y.b ≡ x.b → y.r ≡ x.r → y.top ≡ x.top → IsPreparedFor case mesh p (InWords x) → IsPreparedFor case mesh p (InWords y)
+same_pipe case mesh p x y b r top h = (
+  h.0,
+  record {
+    impeded = ap pos b ∙ h.1.impeded;
+    resisted = ap pos r ∙ h.1.resisted;
+    highest = λ i l. subst (λ t. vapour_head case mesh p i ≤ℤ t) (sym top) (h.1.highest i l);
+  },
+)
+
+-- a table with another entry for one pipe
+pub one_set : (case : Case) (mesh : Mesh) (table : List PreparedPipe) (i : ℕ) (x : PreparedPipe) → i < length table → ArePrepared case mesh table → IsPreparedFor case mesh i x → ArePrepared case mesh (set table i x)
+one_set case mesh table i x inside h one = λ p l. elim (cases_eq p i) [
+  | inl same ↦
+      subst (λ (q : ℕ). IsPreparedFor case mesh q (get_or (set table i x) q Wide)) (sym same)
+      (subst (IsPreparedFor case mesh i) (sym (get_or-set_same table i x Wide inside)) one)
+  | inr other ↦
+      subst (IsPreparedFor case mesh p) (sym (get_or-set_other table i p x Wide other))
+      (h p (subst (λ (m : ℕ). p < m) (length-set table i x) l))
+]

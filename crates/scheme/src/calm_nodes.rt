@@ -28,6 +28,7 @@ use crate::values::{cavity_rule, demand_at, opening_at};
 use crate::valve_ends::valve_end;
 use case_model::{Arrival, Case, End, Mesh, NodeKind, NodeState, Point};
 use charline::Prepared;
+use fixed_num::Guess;
 use junctions::{level, weighted};
 
 // The most ends of a node that is computed here.
@@ -149,7 +150,8 @@ fn calm_junction(
     let arrivals = &mut room[..view.ends.len()];
     match gather_few(case, mesh, view.table, view.ends, near, arrivals) {
         Some(sums) => {
-            let head = level(held.demand, sums.heads, sums.weights as i128);
+            let guess = guess_at(view.table, view.ends);
+            let head = level(held.demand, sums.heads, sums.weights as i128, guess);
             if head < held.hv || head.unsigned_abs() > 100_000_000_000 {
                 return None;
             }
@@ -165,6 +167,17 @@ fn calm_junction(
         }
         None => None,
     }
+}
+
+// What quotients by the weights of these ends are guessed with.
+#[inline(always)]
+fn guess_at(table: &[PreparedPipe], ends: &[End]) -> Guess {
+    if let Some(end) = ends.first() {
+        if let Some(PreparedPipe::Explicit(prepared)) = table.get(end.pipe as usize) {
+            return prepared.guess(end.at_last);
+        }
+    }
+    Guess::none()
 }
 
 // What arrives along each end, and the sums over it.

@@ -1,13 +1,16 @@
 //! What runs of the inner places of a pipe are computed with: worked out once a pipe.
 ghost use Rattle.std.specs.Prelude.{◌≡◌, ◌<◌, length, IfOk, IfSome};
 ghost use Rattle.case_model.specs.Accepted.{IsAccepted};
+ghost use Rattle.case_model.specs.declared.cases.Case.{Case as CaseSeen};
+ghost use Rattle.case_model.specs.declared.meshes.Mesh.{Mesh as MeshSeen};
 ghost use Rattle.scheme.specs.Computable.{IsComputable};
 ghost use Rattle.scheme.specs.Runs.{IsOfPipe, IsPreparedFor, ArePrepared};
 
 use crate::pipes::{impedance, resistance};
 use crate::vapour::highest_vapour_head;
-use case_model::{Case, Friction, Mesh};
+use case_model::{Case, End, Friction, Mesh};
 use charline::Prepared;
+use fixed_num::Guess;
 use std::alloc::{AllocError, Global};
 
 /// What runs of inner places of a pipe are computed with.
@@ -39,7 +42,48 @@ fn prepare_all(alloc: Global, case: &Case, mesh: &Mesh) -> Result<Vec<PreparedPi
     for pipe in 0..mesh.pipes.as_slice().len() {
         table.push(prepare_pipe(case, mesh, pipe as u32))?;
     }
+    for node in 0..mesh.ends.as_slice().len() {
+        guess_node(mesh.ends.as_slice()[node].as_slice(), &mut table);
+    }
     Ok(table)
+}
+
+// Writes for the first end of a node what quotients by the weights of its ends are guessed with.
+fn guess_node(ends: &[End], table: &mut Vec<PreparedPipe>)
+    ensures each { length table.new.items ≡ length table.old.items }
+    ensures prepared { (case : CaseSeen) (mesh : MeshSeen) → ArePrepared case mesh table.old.items →
+        ArePrepared case mesh table.new.items }
+{
+    let guess = Guess::of(twice_weight(ends, table));
+    if let Some(end) = ends.first() {
+        guess_end(*end, guess, table);
+    }
+}
+
+// Writes the guess of one end.
+fn guess_end(end: End, guess: Guess, table: &mut Vec<PreparedPipe>)
+    ensures each { length table.new.items ≡ length table.old.items }
+    ensures prepared { (case : CaseSeen) (mesh : MeshSeen) → ArePrepared case mesh table.old.items →
+        ArePrepared case mesh table.new.items }
+{
+    let pipe = end.pipe as usize;
+    if pipe < table.len() {
+        if let PreparedPipe::Explicit(prepared) = table[pipe] {
+            table[pipe] = PreparedPipe::Explicit(prepared.guessing(end.at_last, guess));
+        }
+    }
+}
+
+// Twice the weight of these ends, as far as it is kept.
+fn twice_weight(ends: &[End], table: &[PreparedPipe]) -> u64 {
+    let mut sum: u64 = 0;
+    for end in ends {
+        if let Some(PreparedPipe::Explicit(prepared)) = table.get(end.pipe as usize) {
+            let weight = prepared.weight().unsigned_abs();
+            sum = sum.saturating_add(weight).saturating_add(weight);
+        }
+    }
+    sum
 }
 
 /// What runs of one pipe are computed with.
