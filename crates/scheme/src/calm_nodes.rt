@@ -1,10 +1,9 @@
-//! Nodes by what is prepared for their pipes: discharge valves, and junctions of few ends that have
-//! no cavity and get none.
+//! Junctions of few ends that have no cavity and get none, by what is prepared for their pipes.
 ghost use Rattle.std.specs.Prelude.{◌≡◌, ◌<◌, ◌≤◌, ◌*◌, ◌+ℤ◌, ◌≤ℤ◌, pos, unsigned_abs};
 ghost use Rattle.std.specs.Prelude.{true, length, All, IfSome, Some};
 ghost use Rattle.std.specs.List.{list_all};
 ghost use Rattle.case_model.specs.Limits.{IsFlow, IsKind, IsRead};
-ghost use Rattle.case_model.specs.Range.{IsPoint, IsState};
+ghost use Rattle.case_model.specs.Range.{IsPoint};
 ghost use Rattle.case_model.specs.declared.cases.Case.{Case as CaseSeen};
 ghost use Rattle.case_model.specs.declared.meshes.Mesh.{Mesh as MeshSeen};
 ghost use Rattle.case_model.specs.declared.states.NodeState.TheVariants.{Good as GoodState};
@@ -14,7 +13,6 @@ ghost use Rattle.junctions.specs.Sums.{sum_of, weight as weight_of, weighted_hea
 ghost use Rattle.scheme.specs.Arrivals.{arrival_from as arrival_of, arrivals_from};
 ghost use Rattle.scheme.specs.Arrivals.{impedance as impedance_of};
 ghost use Rattle.scheme.specs.CalmNodes.{AreOfPipes, IsJunction, is_closed as is_closed_state};
-ghost use Rattle.scheme.specs.Computable.{HasEnds};
 ghost use Rattle.scheme.specs.Ends.{along as along_end, end_points as points_of};
 ghost use Rattle.scheme.specs.Ends.{flowing as point_with};
 ghost use Rattle.scheme.specs.NodeLaws.{law_if};
@@ -22,10 +20,9 @@ ghost use Rattle.scheme.specs.Runs.{ArePrepared};
 ghost use Rattle.scheme.specs.Values.{rule_at};
 
 use crate::arrivals::arrival_along;
-use crate::node_laws::{NodeView, Opened, valve};
+use crate::node_laws::NodeView;
 use crate::prepared::PreparedPipe;
-use crate::values::{cavity_rule, demand_at, opening_at};
-use crate::valve_ends::valve_end;
+use crate::values::demand_at;
 use case_model::{Arrival, Case, End, Mesh, NodeKind, NodeState, Point};
 use charline::Prepared;
 use fixed_num::Guess;
@@ -69,10 +66,8 @@ pub(crate) fn calm_law(
 ) -> Option<NodeState>
     requires read { IsRead case.now }
     requires prepared { ArePrepared case.now mesh.now view.now.table.now }
-    requires head_in { unsigned_abs hv ≤ 100_000_000_000 }
     requires kind_in { IsKind case.now.tables view.now.kind.now }
-    requires has_ends { HasEnds view.now.kind.now view.now.ends.now }
-    requires own_in { IsState view.now.own.now }
+    requires some { 0 < length view.now.ends.now }
     requires near_each { length near.now ≡ length view.now.ends.now }
     requires near_in { All IsPoint near.now }
     requires points_each { length points.old ≡ length view.now.ends.now }
@@ -94,20 +89,6 @@ pub(crate) fn calm_law(
                 hv,
             };
             calm_junction(case, mesh, held, view, near, points)
-        }
-        NodeKind::Discharge {
-            q0,
-            h0,
-            outlet,
-            opening,
-            ..
-        } => {
-            let rule = cavity_rule(case, hv);
-            let opened = Opened {
-                valve: valve(*q0, *h0, *outlet),
-                opening: opening_at(case, opening, view.step),
-            };
-            valve_end(&rule, &opened, view, near, points)
         }
         _ => None,
     }

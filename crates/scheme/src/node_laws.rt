@@ -30,6 +30,7 @@ use crate::calm_nodes::calm_law;
 use crate::ends::{bad_points, end_points, pass, sides};
 use crate::prepared::PreparedPipe;
 use crate::values::{cavity_rule, demand_at, head_at, opening_at, speed_at};
+use crate::valve_ends::valve_law;
 use crate::vapour::node_vapour_head;
 use case_model::{Arrival, Case, CavityRule, End, MOST_ENDS, Mesh, NodeKind, NodeState, Point};
 use junctions::{junction, reservoir};
@@ -166,6 +167,40 @@ fn any_node(
 }
 
 fn law_at(
+    case: &Case,
+    mesh: &Mesh,
+    hv: i64,
+    view: &NodeView,
+    near: &[Point],
+    points: &mut [Point],
+) -> NodeState
+    requires read { IsRead case.now }
+    requires coefficients { HasCoefficients mesh.now }
+    requires prepared { ArePrepared case.now mesh.now view.now.table.now }
+    requires head_in { unsigned_abs hv ≤ 100_000_000_000 }
+    requires kind_in { IsKind case.now.tables view.now.kind.now }
+    requires has_ends { HasEnds view.now.kind.now view.now.ends.now }
+    requires ends_in { All (λ e. e.pipe < length mesh.now.pipes) view.now.ends.now }
+    requires own_in { IsState view.now.own.now }
+    requires near_each { length near.now ≡ length view.now.ends.now }
+    requires near_in { All IsPoint near.now }
+    requires points_each { length points.old ≡ length view.now.ends.now }
+    ensures state { result
+        ≡ (law_if case.now hv view.now.kind.now view.now.step view.now.own.now view.now.ends.now
+        (arrivals_from case.now.friction mesh.now view.now.ends.now near.now)).0 }
+    ensures points { points.new
+        ≡ (law_if case.now hv view.now.kind.now view.now.step view.now.own.now view.now.ends.now
+        (arrivals_from case.now.friction mesh.now view.now.ends.now near.now)).1 }
+{
+    match valve_law(case, mesh, hv, view, near, points) {
+        Some(state) => state,
+        None => gathered_law(case, mesh, hv, view, near, points),
+    }
+}
+
+// The same by what arrives along each end, in a frame of its own.
+#[inline(never)]
+fn gathered_law(
     case: &Case,
     mesh: &Mesh,
     hv: i64,
