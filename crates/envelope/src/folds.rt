@@ -148,6 +148,7 @@ impl Fold {
     }
 
     /// Takes in a node's state. A step past the last changes nothing.
+    #[inline(always)]
     pub fn note_node(&mut self, step: u64, place: u64, state: &NodeState)
         requires { is_within (spans_of self.old) place ≡ true }
         ensures stands { (map : Noted) → Stands self.old map →
@@ -296,6 +297,7 @@ impl Fold {
         }
     }
 
+    #[inline(always)]
     fn keep(&mut self, step: u64, place: u64, sample: &Sample)
         requires { is_within (spans_of self.old) place ≡ true }
         ensures stands { (map : Noted) (noting : Noting) →
@@ -327,6 +329,7 @@ impl Fold {
     }
 
     /// Keeps a sample in a cell, and in the line of samples where the cell has one.
+    #[inline(always)]
     fn keep_within(&mut self, cell: usize, step: u64, sample: &Sample)
         requires cell { cell < count_of_cells self.old }
         requires step { step ≤ steps_of self.old }

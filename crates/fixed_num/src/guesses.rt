@@ -6,10 +6,10 @@ ghost use Rattle.std.specs.Prelude.{◌≡◌, ◌/◌, ◌*◌, ◌<◌, ◌≤
 /// is a division: so this decides how long a quotient takes, and no quotient.
 #[derive(Clone, Copy, Debug)]
 pub struct Guess {
-    // 2^(places + 71) by the divisor, and how many places of a number are left out.
+    // 2^(135 - shift) by the divisor, and by how many places a number is shifted so that the upper 64
+    // bits of the 128 hold what counts.
     factor: u64,
-    places: u32,
-    ghost few: { places < 128 },
+    shift: u32,
 }
 
 impl Guess {
@@ -17,7 +17,7 @@ impl Guess {
     pub fn none() -> Guess {
         Guess {
             factor: 0,
-            places: 0,
+            shift: 0,
         }
     }
 
@@ -30,7 +30,7 @@ impl Guess {
         let whole = (1u128 << (bits + 63)) / divisor as u128;
         Guess {
             factor: whole.min(u64::MAX as u128) as u64,
-            places: bits.saturating_sub(8),
+            shift: 72u32.saturating_sub(bits),
         }
     }
 
@@ -47,8 +47,8 @@ impl Guess {
     // What the quotient most likely is, or one less.
     #[inline(always)]
     fn guessed(&self, n: u128) -> u64 {
-        // The upper 64 bits where the quotient has no more than 56.
-        let high = ((n >> self.places) % 18_446_744_073_709_551_616) as u64;
+        // Nothing is lost where the quotient has no more than 56 bits.
+        let high = ((n << (self.shift % 64)) >> 64) as u64;
         ((high as u128 * self.factor as u128) >> 71) as u64
     }
 }

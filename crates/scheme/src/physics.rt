@@ -77,9 +77,11 @@ impl<'a> Law for Physics<'a> {
     fn inner(&self, pipe: u32, place: u32, left: &Point, own: &Point, right: &Point) -> Point {
         let at = At { pipe, place };
         // Beside a cavity most places have none.
-        if let (Some(own), Some(left), Some(right)) =
-            (Spot::of(own), Spot::of(left), Spot::of(right))
-        {
+        if let (Some(own), Some(left), Some(right)) = (
+            Spot::of(own),
+            Spot::of(left),
+            Spot::of(right),
+        ) {
             if let Some(prepared) = self.kept(pipe) {
                 let before = [left, own, right];
                 if let Some(spot) = runs::calm_place(self.case, self.mesh, at, prepared, &before) {
