@@ -75,21 +75,7 @@ impl<'a> Law for Physics<'a> {
 
     #[tactic(auto, unfolding(crate::specs::Laws::meaning_of))]
     fn inner(&self, pipe: u32, place: u32, left: &Point, own: &Point, right: &Point) -> Point {
-        let at = At { pipe, place };
-        // Beside a cavity most places have none.
-        if let (Some(own), Some(left), Some(right)) = (
-            Spot::of(own),
-            Spot::of(left),
-            Spot::of(right),
-        ) {
-            if let Some(prepared) = self.kept(pipe) {
-                let before = [left, own, right];
-                if let Some(spot) = runs::calm_place(self.case, self.mesh, at, prepared, &before) {
-                    return spot.point();
-                }
-            }
-        }
-        inner_law(self.case, self.mesh, at, left, own, right)
+        inner_law(self.case, self.mesh, At { pipe, place }, left, own, right)
     }
 
     #[inline(always)]

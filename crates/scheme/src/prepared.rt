@@ -54,18 +54,11 @@ fn guess_node(ends: &[End], table: &mut Vec<PreparedPipe>)
     ensures prepared { (case : CaseSeen) (mesh : MeshSeen) → ArePrepared case mesh table.old.items →
         ArePrepared case mesh table.new.items }
 {
-    let guess = Guess::of(twice_weight(ends, table));
-    if let Some(end) = ends.first() {
-        guess_end(*end, guess, table);
+    if ends.len() == 0 {
+        return;
     }
-}
-
-// Writes the guess of one end.
-fn guess_end(end: End, guess: Guess, table: &mut Vec<PreparedPipe>)
-    ensures each { length table.new.items ≡ length table.old.items }
-    ensures prepared { (case : CaseSeen) (mesh : MeshSeen) → ArePrepared case mesh table.old.items →
-        ArePrepared case mesh table.new.items }
-{
+    let guess = Guess::of(twice_weight(ends, table));
+    let end = ends[0];
     let pipe = end.pipe as usize;
     if pipe < table.len() {
         if let PreparedPipe::Explicit(prepared) = table[pipe] {

@@ -1,11 +1,11 @@
 //! The law of the inner places of a pipe by runs, which have no cavity.
-ghost use Rattle.std.specs.Prelude.{◌≡◌, ◌+◌, ◌^◌, ◌<◌, ◌≤◌, true, false, length, IfSome};
+ghost use Rattle.std.specs.Prelude.{◌≡◌, ◌+◌, ◌^◌, ◌<◌, ◌≤◌, true, false, length};
 ghost use Rattle.case_model.specs.declared.cases.Friction.TheVariants.{
   Explicit as ExplicitFriction,
   Linear as LinearFriction,
 };
 ghost use Rattle.case_model.specs.Mesh.{reaches as reaches_of};
-ghost use Rattle.case_model.specs.Runs.{IsCalmRun, calm_at, calm_point};
+ghost use Rattle.case_model.specs.Runs.{IsCalmRun, calm_at};
 ghost use Rattle.charline.specs.Runs.{IsPlus, IsMinus};
 ghost use Rattle.scheme.specs.Computable.{IsComputable};
 ghost use Rattle.scheme.specs.Laws.{meaning_of};
@@ -129,36 +129,6 @@ fn single_place(
             1
         }
         None => 0,
-    }
-}
-
-/// The spot of a place that has no cavity between two that have none, where it gets none; None where
-/// the law of any place is to tell.
-pub(crate) fn calm_place(
-    case: &Case,
-    mesh: &Mesh,
-    at: At,
-    prepared: &PreparedPipe,
-    before: &[Spot; 3],
-) -> Option<Spot>
-    requires fit { IsComputable case.now mesh.now }
-    requires prepared { IsPreparedFor case.now mesh.now at.pipe prepared.now }
-    requires on_mesh { at.pipe < length mesh.now.pipes }
-    requires before_last { at.place + 1 ≤ reaches_of mesh.now at.pipe }
-    ensures { let law = meaning_of case.now mesh.now in
-        IfSome result (λ spot. calm_point spot ≡ law.inner at.pipe at.place
-        (calm_at before.now 0) (calm_at before.now 1) (calm_at before.now 2)) }
-{
-    match prepared {
-        PreparedPipe::Explicit(prepared) => {
-            let mut now = [before[1]];
-            if single_place(case, mesh, at, prepared, before, &mut now) == 1 {
-                Some(now[0])
-            } else {
-                None
-            }
-        }
-        _ => None,
     }
 }
 
