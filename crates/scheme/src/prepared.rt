@@ -54,29 +54,30 @@ fn guess_node(ends: &[End], table: &mut Vec<PreparedPipe>)
     ensures prepared { (case : CaseSeen) (mesh : MeshSeen) → ArePrepared case mesh table.old.items →
         ArePrepared case mesh table.new.items }
 {
-    if ends.len() == 0 {
-        return;
+    let mut twice: u64 = 0;
+    for end in ends {
+        if let Some(PreparedPipe::Explicit(prepared)) = table.get(end.pipe as usize) {
+            let weight = prepared.weight().unsigned_abs();
+            twice = twice.saturating_add(weight).saturating_add(weight);
+        }
     }
-    let guess = Guess::of(twice_weight(ends, table));
-    let end = ends[0];
+    if let Some(end) = ends.first() {
+        guess_end(*end, Guess::of(twice), table);
+    }
+}
+
+// Writes the guess of one end.
+fn guess_end(end: End, guess: Guess, table: &mut Vec<PreparedPipe>)
+    ensures each { length table.new.items ≡ length table.old.items }
+    ensures prepared { (case : CaseSeen) (mesh : MeshSeen) → ArePrepared case mesh table.old.items →
+        ArePrepared case mesh table.new.items }
+{
     let pipe = end.pipe as usize;
     if pipe < table.len() {
         if let PreparedPipe::Explicit(prepared) = table[pipe] {
             table[pipe] = PreparedPipe::Explicit(prepared.guessing(end.at_last, guess));
         }
     }
-}
-
-// Twice the weight of these ends, as far as it is kept.
-fn twice_weight(ends: &[End], table: &[PreparedPipe]) -> u64 {
-    let mut sum: u64 = 0;
-    for end in ends {
-        if let Some(PreparedPipe::Explicit(prepared)) = table.get(end.pipe as usize) {
-            let weight = prepared.weight().unsigned_abs();
-            sum = sum.saturating_add(weight).saturating_add(weight);
-        }
-    }
-    sum
 }
 
 /// What runs of one pipe are computed with.

@@ -3,7 +3,7 @@ use Rattle.std.proofs.lemmas.List.{get_or_default}
 use Rattle.scheme.specs.Runs.{IsPreparedFor}
 use Rattle.scheme.specs.declared.prepared.PreparedPipe.TheVariants.{Explicit, Wide}
 use Rattle.scheme.proofs.Calm.{one_set, same_pipe}
-use Rattle.scheme.proofs.prepared.guess_node.Goals as goal
+use Rattle.scheme.proofs.prepared.guess_end.Goals as goal
 
 pub returns-in-Explicit-clause-prepared : goal.returns-in-Explicit-clause-prepared
 returns-in-Explicit-clause-prepared c = λ case mesh h.
