@@ -6,12 +6,13 @@ use Rattle.std.proofs.lemmas.Int.{ints, fits_signed_from_abs, to_z-of_z, to_z_po
 use Rattle.std.proofs.Math.IntN.{+ℤ_comm}
 use Rattle.fixed_num.specs.Rounding.{rnd}
 use Rattle.case_model.specs.declared.cases.Friction.TheVariants.{Explicit}
+use Rattle.case_model.specs.declared.points.Point.{Point}
 use Rattle.case_model.specs.declared.points.Point.TheVariants.{Good}
 use Rattle.case_model.specs.declared.spots.Spot.{Spot}
 use Rattle.case_model.specs.declared.meshes.Arrival.{Arrival}
 use Rattle.case_model.specs.declared.meshes.CavityRule.{CavityRule}
 use Rattle.case_model.specs.Range.{point_of}
-use Rattle.charline.specs.Characteristics.{impedance_head, friction_head, driven_flow, arrive_plus, arrive_minus, in_reach}
+use Rattle.charline.specs.Characteristics.{IsArrival, impedance_head, friction_head, driven_flow, arrive_plus, arrive_minus, in_reach}
 use Rattle.charline.specs.Interior.{inner_point, meet, meet_if, meeting_head, meeting_flow, growth}
 use Rattle.charline.specs.Runs.{IsPlus, IsMinus, IsRise, IsDriven, IsCalmSpot}
 use Rattle.charline.proofs.Factors.{meet_halfway, flow_by_twice}
@@ -177,3 +178,21 @@ exact_rise b r q x y rise sb sr sq sx sy s ex ey e h =
     let x2 : x ≡ impedance_head (pos b) q = rw (to_z_pos w64 b (omega arith), fq) at ex in
     let y2 : y ≡ friction_head (pos r) q = rw (to_z_pos w128 r (omega arith), fq) at ey in
     rw fr (e2 ∙ ap (λ (v : ℤ). v -ℤ y) x2 ∙ ap (λ (v : ℤ). impedance_head (pos b) q -ℤ v) y2)
+
+-- what has the value of a characteristic of a point is what leaves each point with the same head and
+-- the same flow on that side
+pub left_plus : (b r : ℕ) (h qu qd v c : ℤ) (from : Point) (x : Option Arrival) → from ≡ Good h qu qd v → IsPlus b r (Good h qd qd (pos 0)) c
+    → IfSome x (λ a. a.c ≡ c) → IfSome x (λ a. a.b ≡ pos b) → IfSome x IsArrival → IfSome x (λ a. arrive_plus Explicit (pos b) (pos r) from ≡ Some a)
+unfolding arrive_plus
+left_plus b r h qu qd v c from None e p ec eb range = tt
+left_plus b r h qu qd v c from (Some a) e p ec eb range =
+    ap (arrive_plus Explicit (pos b) (pos r)) e ∙ p.value (subst (λ (z : ℤ). unsigned_abs z ≤ 10000000000000) ec range.value)
+    ∙ ap (λ (z : ℤ). Some (record { c = z; b = pos b })) (sym ec) ∙ ap (λ (z : ℤ). Some (record { c = a.c; b = z })) (sym eb)
+
+pub left_minus : (b r : ℕ) (h qu qd v c : ℤ) (from : Point) (x : Option Arrival) → from ≡ Good h qu qd v → IsMinus b r (Good h qu qu (pos 0)) c
+    → IfSome x (λ a. a.c ≡ c) → IfSome x (λ a. a.b ≡ pos b) → IfSome x IsArrival → IfSome x (λ a. arrive_minus Explicit (pos b) (pos r) from ≡ Some a)
+unfolding arrive_minus
+left_minus b r h qu qd v c from None e p ec eb range = tt
+left_minus b r h qu qd v c from (Some a) e p ec eb range =
+    ap (arrive_minus Explicit (pos b) (pos r)) e ∙ p.value (subst (λ (z : ℤ). unsigned_abs z ≤ 10000000000000) ec range.value)
+    ∙ ap (λ (z : ℤ). Some (record { c = z; b = pos b })) (sym ec) ∙ ap (λ (z : ℤ). Some (record { c = a.c; b = z })) (sym eb)

@@ -1,5 +1,5 @@
 -- One impedance: its inverse, and the flow that a difference of heads drives through it.
-use Rattle.std.proofs.Common.{refl, ℕ, suc, ◌+◌, ◌*◌, ◌<◌, ◌≤◌, ◌≡◌, arith, ℤ, pos, ◌+ℤ◌, ◌*ℤ◌, ◌≤ℤ◌, ◌∙◌, sym}
+use Rattle.std.proofs.Common.{refl, ℕ, ◌+◌, ◌*◌, ◌<◌, ◌≤◌, ◌≡◌, arith, ℤ, pos, ◌+ℤ◌, ◌*ℤ◌}
 use Rattle.std.proofs.lemmas.Int.{ints}
 use Rattle.std.proofs.lemmas.Nat.{le-div, div_below}
 use Rattle.fixed_num.specs.Rounding.{half_up, rnd}

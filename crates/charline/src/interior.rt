@@ -139,14 +139,14 @@ pub fn linear_point(
     }
 }
 
-// What a cavity keeps from the step before: its volume and its growth.
+/// What a cavity keeps from the step before: its volume and its growth.
 #[derive(Drop)]
-struct Old {
-    volume: i64,
-    growth: i64,
+pub(crate) struct Old {
+    pub(crate) volume: i64,
+    pub(crate) growth: i64,
 }
 
-fn old_cavity(qu: i64, qd: i64, volume: i64) -> Old
+pub(crate) fn old_cavity(qu: i64, qd: i64, volume: i64) -> Old
     requires up_in { unsigned_abs qu ≤ 1_000_000_000_000 }
     requires down_in { unsigned_abs qd ≤ 1_000_000_000_000 }
     ensures volume { result.volume ≡ volume }
@@ -230,6 +230,32 @@ fn with_cavity(rule: &CavityRule, plus: &Arrival, minus: &Arrival, head: i64, ol
 {
     let before = flow_before(rule.hv, plus);
     let after = flow_after(rule.hv, minus);
+    held(rule, plus, minus, head, old, before, after)
+}
+
+/// The point of a place whose liquid meets at a head, by the flows on its two sides where it is held
+/// at the vapour head.
+pub(crate) fn held(
+    rule: &CavityRule,
+    plus: &Arrival,
+    minus: &Arrival,
+    head: i64,
+    old: &Old,
+    before: i64,
+    after: i64,
+) -> Point
+    requires rule { IsRule rule.now }
+    requires plus_in { IsArrival plus.now }
+    requires minus_in { IsArrival minus.now }
+    requires head { head ≡ head_of plus.now minus.now }
+    requires before { before ≡ before_of rule.now.hv plus.now }
+    requires after { after ≡ after_of rule.now.hv minus.now }
+    requires before_in { unsigned_abs before ≤ 200_000_000_000_000_000 }
+    requires after_in { unsigned_abs after ≤ 200_000_000_000_000_000 }
+    ensures { result ≡ cavity_at rule.now plus.now minus.now
+        (volume_of rule.now old.now.volume old.now.growth
+        (growth_of (before_of rule.now.hv plus.now) (after_of rule.now.hv minus.now))) }
+{
     let volume = cavity_volume(rule, old.volume, old.growth, growth(before, after));
     if volume > 0 {
         return open_cavity(rule.hv, before, after, volume);
@@ -269,13 +295,13 @@ fn flow_after(hv: i64, minus: &Arrival) -> i64
     driven_flow(hv - minus.c, minus.b)
 }
 
-fn liquid(head: i64, flow: i64) -> Point
+pub(crate) fn liquid(head: i64, flow: i64) -> Point
     ensures { result ≡ liquid_at head flow }
 {
     point_of(head as i128, flow as i128, flow as i128, 0)
 }
 
-fn halfway(plus: &Arrival, minus: &Arrival) -> i64
+pub(crate) fn halfway(plus: &Arrival, minus: &Arrival) -> i64
     requires plus_in { IsArrival plus.now }
     requires minus_in { IsArrival minus.now }
     requires same { plus.now.b ≡ minus.now.b }
@@ -318,7 +344,7 @@ fn weighted(c: i64, z: i64) -> i128
 }
 
 #[tactic(auto, unfolding(crate::specs::Interior::meeting_flow))]
-fn meeting_flow(plus: &Arrival, minus: &Arrival) -> i64
+pub(crate) fn meeting_flow(plus: &Arrival, minus: &Arrival) -> i64
     requires plus_in { IsArrival plus.now }
     requires minus_in { IsArrival minus.now }
     ensures { result ≡ flow_of plus.now minus.now }

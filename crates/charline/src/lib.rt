@@ -7,6 +7,7 @@ mod equal;
 mod impedances;
 mod interior;
 mod losses;
+mod places;
 mod quotients;
 mod runs;
 

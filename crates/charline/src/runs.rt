@@ -166,6 +166,7 @@ impl Prepared {
     }
 
     /// What leaves a point downstream, as `arrive_plus` has it; None where that is to tell.
+    #[tactic(auto, unfolding(crate::specs::Characteristics::arrive_plus))]
     pub fn plus_from(&self, from: &Point) -> Option<Arrival>
         requires { IsPoint from.now }
         ensures value { let p = self.now in IfSome result (λ arrival.
@@ -173,13 +174,14 @@ impl Prepared {
         ensures impedance { IfSome result (λ arrival. arrival.b ≡ pos self.now.b) }
         ensures range { IfSome result IsArrival }
     {
-        match Spot::of(from) {
-            Some(spot) => self.arrival(self.both(&spot).plus),
-            None => None,
+        match from {
+            Point::Good { h, qd, .. } => self.arrival(self.both(&Spot { h: *h, q: *qd }).plus),
+            Point::Bad => None,
         }
     }
 
     /// What leaves a point upstream, as `arrive_minus` has it; None where that is to tell.
+    #[tactic(auto, unfolding(crate::specs::Characteristics::arrive_minus))]
     pub fn minus_from(&self, from: &Point) -> Option<Arrival>
         requires { IsPoint from.now }
         ensures value { let p = self.now in IfSome result (λ arrival.
@@ -187,9 +189,9 @@ impl Prepared {
         ensures impedance { IfSome result (λ arrival. arrival.b ≡ pos self.now.b) }
         ensures range { IfSome result IsArrival }
     {
-        match Spot::of(from) {
-            Some(spot) => self.arrival(self.both(&spot).minus),
-            None => None,
+        match from {
+            Point::Good { h, qu, .. } => self.arrival(self.both(&Spot { h: *h, q: *qu }).minus),
+            Point::Bad => None,
         }
     }
 

@@ -17,7 +17,7 @@ in-band : (low high d : ℕ) → ((low ≤ d) × (d < high)) ⊎ ((d < low) ⊎ 
 in-band low high d = grind arith
 
 -- of two steps that are kept one is the later
-which : (t step : ℕ) → t ≤ step + 1 → step + 1 ≤ t + 1 → (t ≡ step) ⊎ (t ≡ step + 1)
+pub which : (t step : ℕ) → t ≤ step + 1 → step + 1 ≤ t + 1 → (t ≡ step) ⊎ (t ≡ step + 1)
 which t step h g = grind arith
 
 -- two stretches of the same places have the same spots

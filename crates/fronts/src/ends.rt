@@ -4,7 +4,7 @@ ghost use Rattle.case_model.specs.Meaning.{Meaning};
 ghost use Rattle.case_model.specs.Range.{IsPoint};
 ghost use Rattle.case_model.specs.Runs.{calm_point};
 ghost use Rattle.fronts.specs.Fronts.{Holds, Puts, spot};
-ghost use Rattle.fronts.specs.Stretches.{count_of, IsPut, IsPutIn, IsSet};
+ghost use Rattle.fronts.specs.Stretches.{count_of, IsPut, IsPutIn};
 
 use crate::Stretch;
 use case_model::{Point, Spot};
@@ -46,20 +46,10 @@ impl Stretch {
     {
         if self.calm {
             let slot = self.slot(even, place);
-            self.write_calm(slot, spot);
+            self.set_calm(slot, spot);
         } else {
             self.put_copied(even, place, &spot.point());
         }
-    }
-
-    #[tactic(auto, unfolding(crate::specs::Stretches::count_of))]
-    #[inline(always)]
-    fn write_calm(&mut self, slot: usize, spot: Spot)
-        requires inside { slot < 2 * count_of self.old }
-        requires calm { self.old.calm ≡ true }
-        ensures { IsSet slot (calm_point spot) self.old self.new }
-    {
-        self.spots[slot] = spot;
     }
 
     // A point that may have a cavity or be Bad, or that comes where cavities are kept.

@@ -331,7 +331,8 @@ impl Stretch {
     }
 
     #[tactic(auto, unfolding(crate::specs::Stretches::count_of))]
-    fn set_calm(&mut self, slot: usize, spot: Spot)
+    #[inline(always)]
+    pub(crate) fn set_calm(&mut self, slot: usize, spot: Spot)
         requires inside { slot < 2 * count_of self.old }
         requires calm { self.old.calm ≡ true }
         ensures set { IsSet slot (calm_point spot) self.old self.new }

@@ -8,12 +8,13 @@ ghost use Rattle.case_model.specs.Mesh.{reaches as reaches_of};
 ghost use Rattle.case_model.specs.Range.{IsPoint};
 ghost use Rattle.scheme.specs.Computable.{IsComputable};
 ghost use Rattle.scheme.specs.Laws.{inner_law as law_of_place};
+ghost use Rattle.scheme.specs.Runs.{IsOfPipe};
 
 use crate::pipes::{impedance, resistance};
 use crate::values::cavity_rule;
 use crate::vapour::vapour_head;
 use case_model::{Case, Friction, Mesh, Point};
-use charline::{explicit_point, linear_point};
+use charline::{Prepared, explicit_point, linear_point};
 
 /// A place of a pipe.
 #[derive(Clone, Copy)]
@@ -45,6 +46,32 @@ pub(crate) fn inner_law(
         Friction::Explicit => place_law::<false>(case, mesh, at, left, own, right),
         Friction::Linear => place_law::<true>(case, mesh, at, left, own, right),
     }
+}
+
+/// The same by what is prepared for the pipe, friction taken explicitly.
+#[tactic(auto, unfolding(crate::specs::Laws::inner_law))]
+pub(crate) fn prepared_law(
+    case: &Case,
+    mesh: &Mesh,
+    at: At,
+    prepared: &Prepared,
+    left: &Point,
+    own: &Point,
+    right: &Point,
+) -> Point
+    requires fit { IsComputable case.now mesh.now }
+    requires explicit { case.now.friction ≡ ExplicitFriction }
+    requires prepared { let p = prepared.now in
+        IsOfPipe case.now mesh.now at.pipe p.b p.r p.top }
+    requires on_mesh { at.pipe < length mesh.now.pipes }
+    requires on_pipe { at.place ≤ reaches_of mesh.now at.pipe }
+    requires left_in { IsPoint left.now }
+    requires own_in { IsPoint own.now }
+    requires right_in { IsPoint right.now }
+    ensures { result ≡ law_of_place case.now mesh.now at.pipe at.place left.now own.now right.now }
+{
+    let rule = cavity_rule(case, vapour_head(case, mesh, at.pipe, at.place));
+    prepared.point(&rule, left, own, right)
 }
 
 /// The same where it is known whether friction is linear, as it is in the body of a loop.

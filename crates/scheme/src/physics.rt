@@ -11,7 +11,7 @@ ghost use Rattle.scheme.specs.Starts.{start_point, start_node};
 ghost use Rattle.scheme.specs.ReadProps.{IsComputable-prop, ArePrepared-prop};
 ghost use Rattle.scheme.specs.Runs.{IsPreparedFor, ArePrepared};
 
-use crate::interior::{At, inner_law};
+use crate::interior::{At, inner_law, prepared_law};
 use crate::node_laws::{NodeStep, node_law};
 use crate::prepared::PreparedPipe;
 use crate::{runs, starts};
@@ -75,7 +75,13 @@ impl<'a> Law for Physics<'a> {
 
     #[tactic(auto, unfolding(crate::specs::Laws::meaning_of))]
     fn inner(&self, pipe: u32, place: u32, left: &Point, own: &Point, right: &Point) -> Point {
-        inner_law(self.case, self.mesh, At { pipe, place }, left, own, right)
+        let at = At { pipe, place };
+        match self.kept(pipe) {
+            Some(PreparedPipe::Explicit(prepared)) => {
+                prepared_law(self.case, self.mesh, at, prepared, left, own, right)
+            }
+            _ => inner_law(self.case, self.mesh, at, left, own, right),
+        }
     }
 
     #[inline(always)]

@@ -6,7 +6,7 @@ ghost use Rattle.case_model.specs.declared.cases.Friction.TheVariants.{
 };
 ghost use Rattle.case_model.specs.Mesh.{reaches as reaches_of};
 ghost use Rattle.case_model.specs.Runs.{IsCalmRun, calm_at};
-ghost use Rattle.charline.specs.Runs.{IsPlus, IsMinus};
+ghost use Rattle.charline.specs.Runs.{IsPlus};
 ghost use Rattle.scheme.specs.Computable.{IsComputable};
 ghost use Rattle.scheme.specs.Laws.{meaning_of};
 ghost use Rattle.scheme.specs.Runs.{IsOfPipe, IsPreparedFor};
@@ -121,9 +121,9 @@ fn single_place(
     ensures run { let law = meaning_of case.now mesh.now in
         IsCalmRun law at.pipe at.place before.now result now.old now.new }
 {
-    let plus = first_plus(prepared, before);
-    let minus = third_minus(prepared, before);
-    match prepared.meeting(plus, minus) {
+    let plus = early_plus(prepared, before, 0);
+    let next = prepared.both(&before[2]);
+    match prepared.meeting(plus, next.minus) {
         Some(spot) => {
             now[0] = spot;
             1
@@ -154,10 +154,10 @@ fn explicit_run(
     ensures run { let law = meaning_of case.now mesh.now in
         IsCalmRun law at.pipe at.place before.now result now.old now.new }
 {
-    let mut behind = first_plus(prepared, before);
-    let mut here = second_plus(prepared, before);
-    let mut k = 0;
-    while k + 1 < now.len() {
+    let mut behind = early_plus(prepared, before, 0);
+    let mut here = early_plus(prepared, before, 1);
+    for pair in 0..now.len() / 2 {
+        let k = 2 * pair;
         let next = prepared.both(&before[k + 2]);
         match prepared.meeting(behind, next.minus) {
             Some(spot) => now[k] = spot,
@@ -170,10 +170,10 @@ fn explicit_run(
         }
         behind = next.plus;
         here = ahead.plus;
-        k += 2;
     }
     // An odd count leaves one place.
-    if k < now.len() {
+    if now.len() % 2 == 1 {
+        let k = now.len() - 1;
         let ahead = prepared.both(&before[k + 2]);
         match prepared.meeting(behind, ahead.minus) {
             Some(spot) => now[k] = spot,
@@ -183,30 +183,14 @@ fn explicit_run(
     now.len()
 }
 
-// The value of C+ of the place before the first of a run.
+// The value of C+ of the place before the first of a run, or of the first.
 #[inline(always)]
-fn first_plus(prepared: &Prepared, before: &[Spot]) -> i64
+fn early_plus(prepared: &Prepared, before: &[Spot], index: usize) -> i64
+    requires early { index < 2 }
     requires some { 2 ≤ length before.now }
-    ensures { IsPlus prepared.now.b prepared.now.r (calm_at before.now 0) result }
+    ensures { IsPlus prepared.now.b prepared.now.r (calm_at before.now index) result }
 {
-    prepared.both(&before[0]).plus
-}
-
-// The value of C+ of the first place of a run.
-fn second_plus(prepared: &Prepared, before: &[Spot]) -> i64
-    requires some { 2 ≤ length before.now }
-    ensures { IsPlus prepared.now.b prepared.now.r (calm_at before.now 1) result }
-{
-    prepared.both(&before[1]).plus
-}
-
-// The value of C- of the place after the first of a run.
-#[inline(always)]
-fn third_minus(prepared: &Prepared, before: &[Spot]) -> i64
-    requires some { 3 ≤ length before.now }
-    ensures { IsMinus prepared.now.b prepared.now.r (calm_at before.now 2) result }
-{
-    prepared.both(&before[2]).minus
+    prepared.both(&before[index]).plus
 }
 
 // Place by place, by the law of one.

@@ -11,7 +11,7 @@ use Rattle.fronts.specs.Fronts.{Holds, ever, fan, spot}
 use Rattle.fronts.specs.Rows.{IsTaken}
 use Rattle.fronts.specs.Stretches.{AreSamePlaces, count_of, is_even, kept, kept_in}
 use Rattle.fronts.specs.declared.stretches.Stretch.{Stretch}
-use Rattle.fronts.proofs.Raising.{same-spot}
+use Rattle.fronts.proofs.Raising.{same-spot, which}
 use Rattle.fronts.proofs.Stepping.{next-parity}
 use Rattle.strands.proofs.Loading.{loaded-in, loaded-out, place-is, point-first, point-second}
 use Rattle.strands.proofs.Pairing.{earlier-step, later-step}
@@ -83,9 +83,6 @@ same-step : (t i a b : ℕ) → is_even (t + i) ≡ is_even a → (b + i) % 2 �
 same-step t i a b e h =
     let r : (t + i) % 2 ≡ a % 2 = rest-of (t + i) a e in
     even-of t b (omega arith)
-
-one-of : (t step : ℕ) → t ≤ step + 1 → step + 1 ≤ t + 1 → (t ≡ step) ⊎ (t ≡ step + 1)
-one-of t step h g = grind arith
 
 -- ---- what a block lays
 
@@ -219,7 +216,7 @@ side-laid law old new left even n w s lowest count tells front size long few low
                 let at : x ≡ from_end left n d = place-is left n d x (omega arith) (omega arith)
                 refl in
                 let here = turn-end left n lowest count x low (omega arith) (omega arith) c in
-                elim (one-of t (s + (w - d) - 1) (omega arith) (omega arith)) [
+                elim (which t (s + (w - d) - 1) (omega arith) (omega arith)) [
                   | inl k ↦
                       point-first law old left n w s d x tells (kept new t x) size (omega arith) at
                       has
@@ -305,7 +302,7 @@ beside-laid law old new right even at w s lowest count tells since front room fe
               most;
           place_is = at-place;
         } in
-        elim (one-of t (s + (d - 1)) (omega arith) (omega arith)) [
+        elim (which t (s + (d - 1)) (omega arith) (omega arith)) [
           | inl k ↦
               outer-first law old right at w s d (count_of old) x tells (kept new t x) near has
               (λ p told. ap (kept new t) (sym turn)

@@ -1,8 +1,7 @@
-use Rattle.std.proofs.Common.{arith, to_z-of_z, subst, sym, pos, unsigned_abs, ◌≡◌, ◌≤◌, ℤ, ◌∙◌}
+use Rattle.std.proofs.Common.{arith, to_z-of_z, pos, unsigned_abs, ◌≤◌}
 use Rattle.std.proofs.lemmas.Int.{ints}
 use Rattle.fixed_num.specs.Rounding.{rnd}
-use Rattle.fixed_num.proofs.Fits.{fits, wide}
-use Rattle.charline.specs.Runs.{IsInverse}
+use Rattle.fixed_num.proofs.Fits.{fits}
 use Rattle.charline.proofs.Singles.{inverse_of}
 use Rattle.charline.proofs.runs.inverse.Goals as goal
 

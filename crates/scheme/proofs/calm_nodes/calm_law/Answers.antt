@@ -1,4 +1,4 @@
-use Rattle.std.proofs.Common.{arith, to_z-of_z, sym, subst, ◌≡◌, FitsSigned, w64, IfSome, ap}
+use Rattle.std.proofs.Common.{to_z-of_z, sym, subst, ◌≡◌, FitsSigned, w64, IfSome}
 use Rattle.case_model.specs.declared.cases.NodeKind.{NodeKind}
 use Rattle.case_model.specs.declared.states.NodeState.{NodeState}
 use Rattle.scheme.specs.Arrivals.{arrivals_from}

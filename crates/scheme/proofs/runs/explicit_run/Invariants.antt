@@ -1,4 +1,4 @@
-use Rattle.std.proofs.Common.{◌+◌, ◌-◌, ◌≤◌, ℕ, ℤ, List, length}
+use Rattle.std.proofs.Common.{◌+◌, ◌*◌, ℕ, ℤ, List}
 use Rattle.case_model.specs.declared.spots.Spot.{Spot}
 use Rattle.case_model.specs.Meaning.{Meaning}
 use Rattle.case_model.specs.Runs.{IsCalmRun, calm_at}
@@ -12,11 +12,6 @@ pub record IsSo (law : Meaning) (p first : ℕ) (before : List Spot) (k : ℕ) (
   pub left : IsPlus b r (calm_at before k) behind
   pub own : IsPlus b r (calm_at before (k + 1)) here
 
-abbrev pub invariant-loop-k : goal.invariant-loop-k
-invariant-loop-k l = record {
-  so : IsSo (meaning_of l.case l.mesh) l.fn.at.pipe l.fn.at.place l.before l.k l.fn.now l.now l.prepared.b l.prepared.r l.behind l.here;
-  most : l.k ≤ length l.now;
-}
-
-abbrev pub decreases-loop-k : goal.decreases-loop-k
-decreases-loop-k l = length l.now - l.k
+abbrev pub invariant-loop-pair : goal.invariant-loop-pair
+invariant-loop-pair l =
+    IsSo (meaning_of l.case l.mesh) l.fn.at.pipe l.fn.at.place l.before (2 * l.pair) l.fn.now l.now l.prepared.b l.prepared.r l.behind l.here

@@ -6,5 +6,5 @@ use Rattle.fronts.proofs.stretches.Stretch.put_still.Goals as goal
 
 pub returns-then-self : goal.returns-then-self
 returns-then-self c =
-    put-set c.args.even c.args.place (calm_point c.args.spot) c.args.self.now c.write_calm.new.self c.requires
-    (subst (λ s. IsSet s (calm_point c.args.spot) c.args.self.now c.write_calm.new.self) c.slot-slot.ensures.value c.write_calm.ensures)
+    put-set c.args.even c.args.place (calm_point c.args.spot) c.args.self.now c.set_calm.new.self c.requires
+    (subst (λ s. IsSet s (calm_point c.args.spot) c.args.self.now c.set_calm.new.self) c.slot-slot.ensures.value c.set_calm.ensures.set)
